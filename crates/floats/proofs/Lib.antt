@@ -1,0 +1,17 @@
+pub mod Tests
+pub mod Signs
+pub mod Division
+pub mod Fractions
+pub mod Floors
+pub mod Held
+pub mod Signed
+pub mod Digits
+pub mod Brought
+pub mod Halves
+pub mod Patterns
+pub mod Grid
+pub mod Computed
+pub mod Cases
+pub mod Laws
+pub mod Ranks
+pub mod Threshold

@@ -1,0 +1,6 @@
+pub mod Magnitude
+pub mod Floor
+pub mod Power
+pub mod Root
+pub mod Steps
+pub mod Examples

@@ -1,0 +1,151 @@
+// The float helpers of the solver: magnitude, floor, square root and whole powers, on every f64.
+ghost use mathlib.Core.Path.{_≡_};
+ghost use Prim.Native.Nat.{ℕ, _+_, _*_, _^_, _≤_, _<_};
+ghost use lib.Dec.{T};
+ghost use lib.Ieee.{toSigned};
+ghost use lib.Ieee.Positive.{positive, num, den};
+ghost use Rattle.floats.specs.Magnitude.{magnitudeOf};
+ghost use Rattle.floats.specs.Floor.{ceilDiv, floorOf};
+ghost use Rattle.floats.specs.Power.{powerOf};
+ghost use Rattle.floats.specs.Root.{rootOf, IsRoot};
+ghost use Rattle.floats.specs.Steps.{unitsAt, Scaled53, Rooted};
+
+// x without its sign.
+pub fn magnitude(x: f64) -> f64
+    ensures { λ r. ⌜ r ≡ magnitudeOf x ⌝ }
+{
+    if x < 0.0 {
+        -x
+    } else if x == 0.0 {
+        0.0
+    } else {
+        x
+    }
+}
+
+// The least whole number that is not below x, for an x above 0 and below 2^31.
+fn ceiling(x: f64) -> u64
+    requires { ⌜ T (positive x) × (num x < 2 ^ 31 * den x) ⌝ }
+    ensures { λ r. ⌜ (r ≡ ceilDiv (num x) (den x)) × (1 ≤ r) × (r ≤ 2 ^ 31) ⌝ }
+{
+    let whole = std::num::truncating_f64_to_u64(x);
+    if (whole as f64) < x { whole + 1 } else { whole }
+}
+
+// The greatest whole number that is not above x, held to the range of an i32; 0 for a NaN.
+pub fn floor(x: f64) -> i32
+    ensures { λ r. ⌜ r ≡ toSigned 31 (floorOf x) ⌝ }
+{
+    if x > 0.0 {
+        if x < 2147483647.0 {
+            return std::num::truncating_f64_to_u64(x) as i32;
+        }
+        return 2147483647;
+    }
+    if x < 0.0 {
+        if -x < 2147483648.0 {
+            // the negation of 2^31 fits an i32, and 2^31 itself does not
+            return -1 - ((ceiling(-x) - 1) as i32);
+        }
+        return -2147483648;
+    }
+    0
+}
+
+// u^p, by p multiplications from 1.0 up.
+pub fn power(u: f64, p: u32) -> f64
+    ensures { λ r. ⌜ r ≡ powerOf u p ⌝ }
+{
+    let mut r = 1.0;
+    for _ in 0..p {
+        r = r * u;
+    }
+    r
+}
+
+// The whole part of the root of m * 2^54, one binary digit a turn.
+fn root_digits(m: u64) -> u64
+    requires { ⌜ m < 2 ^ 54 ⌝ }
+    ensures { λ r. ⌜ (r * r ≤ m * 2 ^ 54) × (m * 2 ^ 54 < (r + 1) * (r + 1)) ⌝ }
+{
+    // q * q + rest * bit is m * 2^54, and the root is below q + bit
+    let mut bit: u64 = 0x40_0000_0000_0000;
+    let mut rest: u64 = m;
+    let mut q: u64 = 0;
+    while bit > 1 {
+        bit = bit / 2;
+        rest = rest * 2;
+        let t = 2 * q + bit;
+        if t <= rest {
+            rest -= t;
+            q += bit;
+        }
+    }
+    q
+}
+
+// A number m * 2^e of units of 2^-1126.
+struct Spread {
+    m: u64,
+    e: u64,
+}
+
+// What the pattern of a positive finite f64 stands for, with all 53 digits of m in use: a
+// subnormal is brought up by the leading zeros of its fraction bits.
+fn scaled(bits: u64) -> Spread
+    requires { ⌜ (0 < bits) × (bits < 0x7ff0_0000_0000_0000) ⌝ }
+    ensures { λ r. ⌜ Scaled53 bits (r .m) (r .e) ⌝ }
+{
+    let field = bits >> 52;
+    let digits = bits & 0xf_ffff_ffff_ffff;
+    if field == 0 {
+        let up = u64::leading_zeros(digits) as u64 - 11;
+        Spread {
+            m: digits << up,
+            e: 52 - up,
+        }
+    } else {
+        Spread {
+            m: digits + 0x10_0000_0000_0000,
+            e: field + 51,
+        }
+    }
+}
+
+// The pattern of the root of the positive finite f64 with the pattern `bits`. The root has 54
+// digits here, the last of which rounds: no root lies on the middle of two f64.
+fn root_bits(bits: u64) -> u64
+    requires { ⌜ (0 < bits) × (bits < 0x7ff0_0000_0000_0000) ⌝ }
+    ensures { λ r. ⌜ ((q : ℕ) × (h : ℕ) × Rooted (unitsAt bits * 2 ^ 1074) r q h) ⌝ }
+{
+    let s = scaled(bits);
+    let m = s.m;
+    let e = s.e;
+    // an even exponent, whose half is the root's
+    let n = if e % 2 == 0 { m } else { 2 * m };
+    let q = root_digits(n);
+    (e / 2 + 485) * 0x10_0000_0000_0000 + (q + 1) / 2
+}
+
+// The root of x: the nearest f64 to the exact root; a zero is its own root, and so are the infinity
+// and NaN; any other number below zero has NaN.
+pub fn root(x: f64) -> f64
+    ensures is { λ r. ⌜ r ≡ rootOf x ⌝ }
+    ensures nearest { λ r. ⌜ IsRoot x r ⌝ }
+{
+    if x != x {
+        return x;
+    }
+    if x == 0.0 {
+        return x;
+    }
+    if x < 0.0 {
+        return 0.0 / 0.0;
+    }
+    let bits = f64::to_bits(x);
+    if bits < 0x7ff0_0000_0000_0000 {
+        f64::from_bits(root_bits(bits))
+    } else {
+        x
+    }
+}
