@@ -17,7 +17,7 @@ use Rattle.floats.specs.Root.{inUnits, rootSquared, Nearer, Nearest, Pos
 use Rattle.floats.specs.Steps.{fieldUnits, unitsAt, Rooted}
 use Rattle.floats.proofs.Brought.{pow-lt-back}
 use Rattle.floats.proofs.Halves.{square-lt}
-use Rattle.floats.proofs.Patterns.{read, units-are, of-pattern, Pattern, pattern}
+use Rattle.floats.proofs.Patterns.{ofBits-is, read, units-are, of-pattern, Pattern, pattern}
 
 -- ---- the units of any finite f64 are at most 53 digits and zeros after them
 
@@ -33,10 +33,6 @@ of-fields (suc j) t h = (2 ^ 52 + t, j, less t h, refl)
   where
     less : (t : ℕ) → t < 2 ^ 52 → 2 ^ 52 + t < 2 ^ 53
     less t h = omega arith
-
-ofBits-is : (b : ℕ) → ofBits binary64 b ≡ ofFields binary64 (leb (2 ^ 63) b) (b % 2 ^ 63 / 2 ^ 52) (b % 2 ^ 52)
-unfolding ofBits
-ofBits-is b = refl
 
 of-bits : (b : ℕ) → T (finite (ofBits binary64 b)) → Digits53 (inUnits (ofBits binary64 b))
 of-bits b p =

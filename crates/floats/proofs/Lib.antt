@@ -1,5 +1,4 @@
 pub mod Tests
-pub mod Signs
 pub mod Division
 pub mod Fractions
 pub mod Floors
@@ -9,6 +8,7 @@ pub mod Digits
 pub mod Brought
 pub mod Halves
 pub mod Patterns
+pub mod Signs
 pub mod Grid
 pub mod Computed
 pub mod Cases

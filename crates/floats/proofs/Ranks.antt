@@ -270,6 +270,30 @@ at-least v (fin s zero e) n f h = subst (λ (k : ℤ). NotBelow (fin s 0 k)) (sy
 at-least v (fin true (suc m) e) n f h = absurd (clash h (no-le-below v n m e))
 at-least v (fin false (suc m) e) n f h = number (lt→ltb 0 (suc m) (zero-lt-suc m))
 
+-- ---- the greatest finite f64
+
+abbrev pub top : Float
+top = ofBits binary64 0x7fef_ffff_ffff_ffff
+
+top-rank : rank top ≡ 0x7fef_ffff_ffff_ffff
+unfolding rank ofBits toBits
+top-rank = refl
+
+top-positive : T (positive top)
+unfolding ofBits
+top-positive = tt
+
+top-held : T (fits binary64 top)
+top-held = ofBits-fits binary64 0x7fef_ffff_ffff_ffff
+
+pub at-most-top : (x : Float) → T (fits binary64 x) → NotBelow x → (x ≡ inf false → ⊥) → T (le x top)
+at-most-top x f (naught s) h = zero-le-positive s top top-positive
+at-most-top x f (number p) h = rank→le x top f top-held (number p) (number top-positive) (subst (λ (k : ℕ). rank x ≤ k) (sym top-rank) (less (rank x) (rank-under x f p)))
+  where
+    less : (a : ℕ) → a < 9218868437227405312 → a ≤ 9218868437227405311
+    less a h = omega arith
+at-most-top x f infinity h = absurd (h refl)
+
 -- ---- the next f64 has the next rank
 
 pub record Next (t u : Float) : Type 0 where

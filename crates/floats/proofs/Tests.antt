@@ -131,6 +131,11 @@ pub nan-not-zero : eq nan zero-float ≡ false
 unfolding eq
 nan-not-zero = refl
 
+-- a float that equals itself does not differ from itself, and one that does not, does
+pub differs : (x : Float) {b : Bool} → eq x x ≡ b → ne x x ≡ not b
+unfolding ne
+differs x h = ap not h
+
 pub is-no-nan : (x : Float) → ne x x ≡ false → T (not (isNan x))
 unfolding isNan
 is-no-nan nan h = no h (yes nan-differs)

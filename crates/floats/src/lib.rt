@@ -10,17 +10,14 @@ ghost use Rattle.floats.specs.Power.{powerOf};
 ghost use Rattle.floats.specs.Root.{rootOf, IsRoot};
 ghost use Rattle.floats.specs.Steps.{unitsAt, Scaled53, Rooted};
 
-// x without its sign.
+// x without its sign: the sign's bit is cleared. A NaN has no bits to rely on, and is its own.
 pub fn magnitude(x: f64) -> f64
     ensures { λ r. ⌜ r ≡ magnitudeOf x ⌝ }
 {
-    if x < 0.0 {
-        -x
-    } else if x == 0.0 {
-        0.0
-    } else {
-        x
+    if x == x {
+        return f64::from_bits(f64::to_bits(x) % 0x8000_0000_0000_0000);
     }
+    x
 }
 
 // The least whole number that is not below x, for an x above 0 and below 2^31.

@@ -2,7 +2,8 @@
 use mathlib.Core.Path.{sym, subst}
 use lib.Dec.{T}
 use lib.Ieee.{binary64, fits}
-use Rattle.floats.proofs.Signs.{of-negative, of-zero, of-other}
+use Rattle.floats.proofs.Tests.{differs, is-no-nan}
+use Rattle.floats.proofs.Signs.{nan-magnitude, cleared, cleared-bits}
 use Rattle.floats.proofs.magnitude.Statement.{statement}
 use Rattle.floats.proofs.magnitude.Tie as tie
 
@@ -10,14 +11,17 @@ use Rattle.floats.proofs.magnitude.Tie as tie
 held : (c : tie.Start) → T (fits binary64 (c .args .x))
 held c = subst T (sym (c .good .0 .1)) tt
 
+float-to-bits-result : tie.Need-float-to-bits-result
+float-to-bits-result c = is-no-nan (c .before .args .x) (differs (c .before .args .x) (c .if1 .taken))
+
+float-from-bits-result : tie.Need-float-from-bits-result
+float-from-bits-result c = cleared-bits (c .before .args .x) (held (c .before)) (differs (c .before .args .x) (c .if1 .taken))
+
 returns : tie.Need-returns
-returns c = of-negative (c .before .args .x) (c .if1 .taken)
+returns c = cleared (c .before .args .x) (held (c .before))
 
 returns-2 : tie.Need-returns-2
-returns-2 c = of-zero (c .before .before .args .x) (held (c .before .before)) (c .if2 .taken)
-
-returns-3 : tie.Need-returns-3
-returns-3 c = of-other (c .before .before .args .x) (c .before .if1 .left) (c .if2 .left)
+returns-2 c = nan-magnitude (c .before .args .x) (differs (c .before .args .x) (c .if1 .left))
 
 pub magnitude-spec : {M : Type 1} → statement M
-magnitude-spec = tie.close (tie.spec returns returns-2 returns-3)
+magnitude-spec = tie.close (tie.spec float-to-bits-result float-from-bits-result returns returns-2)

@@ -1,0 +1,30 @@
+#[path = "../sources.rs"]
+mod sources;
+use sources::{edited, included, module, source, write};
+
+fn main() {
+    let mut match_field = String::new();
+    for name in ["aggregate", "hash_index", "verify"] {
+        let file = source(&format!("celestial-solver/src/match_field/{name}.rs"));
+        match_field += &module(name, &file);
+    }
+    write("match_field.rs", &match_field);
+
+    let solution = source("celestial-solver/src/fit_wcs/solution.rs");
+    write("solution.rs", &module("solution", &solution));
+
+    let cd_matrix = source("celestial-solver/src/fit_wcs/cd_matrix.rs");
+    write("cd_matrix.rs", &included(&cd_matrix));
+    // the number of trials is a parameter of ours
+    let trials = [("let max_trials = 1000;", 1, "let max_trials = super::trials::now();")];
+    write("cd_matrix_trials.rs", &edited(&cd_matrix, &trials));
+
+    let sip = source("celestial-solver/src/fit_wcs/sip.rs");
+    write("sip.rs", &included(&sip));
+    // powers are repeated products, and terms are summed in the order of sip_monomial_terms
+    let in_order = [
+        ("libm::pow(", 4, "super::in_order::power("),
+        ("use std::collections::HashMap;", 1, "use super::in_order::Map as HashMap;"),
+    ];
+    write("sip_in_order.rs", &edited(&sip, &in_order));
+}
