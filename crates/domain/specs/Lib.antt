@@ -1,3 +1,3 @@
-pub mod Refusals
+pub mod Answers
 pub mod Domain
 pub mod Examples

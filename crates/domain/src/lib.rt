@@ -1,6 +1,6 @@
 // Why a call is refused, and which numbers the calls take.
 ghost use mathlib.Core.Path.{_≡_};
-ghost use Rattle.domain.specs.Refusals.{numberOf};
+ghost use Rattle.domain.specs.Answers.{numberOf, answerNumber};
 ghost use Rattle.domain.specs.Domain.{between, isPosition, isFinite, isSnr, isWeight, isLimit, isMaskByte, every};
 
 // A refusal, in the order in which the calls check for it.
@@ -28,7 +28,7 @@ pub enum Refusal {
 }
 
 impl Refusal {
-    // Its number in an answer, where 0 is done.
+    // Its number in an answer.
     pub fn number(self) -> u32
         ensures { λ r. ⌜ r ≡ numberOf self ⌝ }
     {
@@ -43,6 +43,24 @@ impl Refusal {
             Refusal::Degenerate => 8,
             Refusal::Few => 9,
             Refusal::Form => 10,
+        }
+    }
+}
+
+// How a call that writes into lent lists ends; also what the tests of an input come to.
+pub enum Answer {
+    Done,
+    Refused(Refusal),
+}
+
+impl Answer {
+    // The number of the answer: 0 is done.
+    pub fn number(self) -> u32
+        ensures { λ r. ⌜ r ≡ answerNumber self ⌝ }
+    {
+        match self {
+            Answer::Done => 0,
+            Answer::Refused(why) => why.number(),
         }
     }
 }
