@@ -2,26 +2,26 @@
 // standard output, in the form of oracle/README.md.
 use libc::STDIN_FILENO;
 use libc::STDOUT_FILENO;
-use text::Number;
-use text::Place;
+use scan::Number;
+use scan::Place;
 
 // The float at a place; NaN where no 16 digits stand there.
 fn float_at(s: &[u8], at: usize) -> f64 {
-    match text::read_hex(s, at) {
-        Number::Is(bits, _) => text::of_bits(bits),
+    match scan::read_hex(s, at) {
+        Number::Is(bits, _) => scan::of_bits(bits),
         Number::Wrong(_) => 0.0 / 0.0,
     }
 }
 
 // The number after a float and a space at a place; 0 where none stands there.
 fn number_after(s: &[u8], at: usize) -> u64 {
-    let Number::Is(_, p) = text::read_hex(s, at) else {
+    let Number::Is(_, p) = scan::read_hex(s, at) else {
         return 0;
     };
-    let Place::Next(q) = text::read_bytes(s, p, b" ") else {
+    let Place::Next(q) = scan::read_bytes(s, p, b" ") else {
         return 0;
     };
-    match text::read_decimal(s, q) {
+    match scan::read_decimal(s, q) {
         Number::Is(n, _) => n,
         Number::Wrong(_) => 0,
     }
@@ -42,19 +42,19 @@ fn print_signed(n: i32) {
 
 // Answers the case that starts at a place; a line that is no case has the answer "?".
 fn answer(s: &[u8], at: usize) {
-    if let Place::Next(p) = text::read_bytes(s, at, b"magnitude ") {
+    if let Place::Next(p) = scan::read_bytes(s, at, b"magnitude ") {
         print_float(floats::magnitude(float_at(s, p)));
         return;
     }
-    if let Place::Next(p) = text::read_bytes(s, at, b"floor ") {
+    if let Place::Next(p) = scan::read_bytes(s, at, b"floor ") {
         print_signed(floats::floor(float_at(s, p)));
         return;
     }
-    if let Place::Next(p) = text::read_bytes(s, at, b"root ") {
+    if let Place::Next(p) = scan::read_bytes(s, at, b"root ") {
         print_float(floats::root(float_at(s, p)));
         return;
     }
-    if let Place::Next(p) = text::read_bytes(s, at, b"power ") {
+    if let Place::Next(p) = scan::read_bytes(s, at, b"power ") {
         let exponent = (number_after(s, p) % 4294967296) as u32;
         print_float(floats::power(float_at(s, p), exponent));
         return;
@@ -67,7 +67,7 @@ fn answer_all(s: &[u8]) {
     let mut at = 0;
     while at < s.len() {
         answer(s, at);
-        let end = text::line_end(s, at);
+        let end = scan::line_end(s, at);
         if s.len() <= end {
             return;
         }

@@ -4,7 +4,7 @@ use mathlib.Core.Path.{sym, subst}
 use Prim.Native.Nat.{ℕ, _-_, _≤_}
 use native.Mathlib.Omega.{arith}
 use lib.ListN.{length, drop}
-use Rattle.text.proofs.Reading.{line-within}
+use Rattle.scan.proofs.Reading.{line-within}
 use Rattle.cases_floats.proofs.answer_all.Statement.{statement}
 use Rattle.cases_floats.proofs.answer_all.Tie as tie
 

@@ -1,9 +1,9 @@
--- `text::hex_value` meets its contract: one test for each bound of the two runs of digits.
+-- `scan::hex_value` meets its contract: one test for each bound of the two runs of digits.
 use borrow.Author.Tests.{lt-ltb, le-ltb}
 use native.Mathlib.Omega.{arith}
-use Rattle.text.specs.Read.{hexValue}
-use Rattle.text.proofs.hex_value.Statement.{statement}
-use Rattle.text.proofs.hex_value.Tie as tie
+use Rattle.scan.specs.Read.{hexValue}
+use Rattle.scan.proofs.hex_value.Statement.{statement}
+use Rattle.scan.proofs.hex_value.Tie as tie
 
 returns : tie.Need-returns
 unfolding hexValue

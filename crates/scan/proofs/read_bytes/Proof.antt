@@ -1,12 +1,12 @@
--- `text::read_bytes` meets its contract: the loop's invariant: reading on from here comes to the same as reading from the start.
+-- `scan::read_bytes` meets its contract: the loop's invariant: reading on from here comes to the same as reading from the start.
 use native.Mathlib.Omega.{arith}
 use mathlib.Core.Path.{_≡_, refl, _∙_}
 use Prim.Native.Nat.{_-_, _≤_}
 use lib.ListN.{length, drop}
-use Rattle.text.specs.Read.{readBytes}
-use Rattle.text.proofs.Reading.{bytes-more, bytes-short, bytes-wrong, bytes-end}
-use Rattle.text.proofs.read_bytes.Statement.{statement}
-use Rattle.text.proofs.read_bytes.Tie as tie
+use Rattle.scan.specs.Read.{readBytes}
+use Rattle.scan.proofs.Reading.{bytes-more, bytes-short, bytes-wrong, bytes-end}
+use Rattle.scan.proofs.read_bytes.Statement.{statement}
+use Rattle.scan.proofs.read_bytes.Tie as tie
 
 abbrev Inv-loop : tie.InvT-loop
 Inv-loop s at t p₀ i₀ p i = (readBytes (drop i t) (drop p s) p ≡ readBytes t (drop at s) at) × (i ≤ length t)

@@ -11,10 +11,10 @@ use lib.Pow.{pow-add, pow-mono}
 use lib.Ieee.{nan, binary64, ofBits, ofFields, nanBits}
 use lib.ListN.{length, getD, drop, drop-of-length-le}
 use lib.Seq.{drop-cons}
-use Rattle.text.specs.declared.Number.{Number}
-use Rattle.text.specs.declared.Number.the-variants.{Is, Wrong}
-use Rattle.text.specs.declared.Place.the-variants.{Next, Not}
-use Rattle.text.specs.Read.{hexValue, readHex, decimalValue, held, moreDecimal, readDecimal, readBytes, lineEnd}
+use Rattle.scan.specs.declared.Number.{Number}
+use Rattle.scan.specs.declared.Number.the-variants.{Is, Wrong}
+use Rattle.scan.specs.declared.Place.the-variants.{Next, Not}
+use Rattle.scan.specs.Read.{hexValue, readHex, decimalValue, held, moreDecimal, readDecimal, readBytes, lineEnd}
 
 -- ---- hexadecimal digits
 

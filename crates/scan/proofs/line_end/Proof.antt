@@ -1,12 +1,12 @@
--- `text::line_end` meets its contract: the loop's invariant: the line ends where it ends from here.
+-- `scan::line_end` meets its contract: the loop's invariant: the line ends where it ends from here.
 use native.Mathlib.Omega.{arith}
 use Prim.Native.Nat.{_-_}
 use mathlib.Core.Path.{_≡_, refl, _∙_}
 use lib.ListN.{length, drop}
-use Rattle.text.specs.Read.{lineEnd}
-use Rattle.text.proofs.Reading.{line-more, line-found, line-none}
-use Rattle.text.proofs.line_end.Statement.{statement}
-use Rattle.text.proofs.line_end.Tie as tie
+use Rattle.scan.specs.Read.{lineEnd}
+use Rattle.scan.proofs.Reading.{line-more, line-found, line-none}
+use Rattle.scan.proofs.line_end.Statement.{statement}
+use Rattle.scan.proofs.line_end.Tie as tie
 
 abbrev Inv-loop : tie.InvT-loop
 Inv-loop s at p₀ p = lineEnd (drop p s) p ≡ lineEnd (drop at s) at

@@ -3,10 +3,10 @@ use Prim.Native.Nat.{ℕ, zero, suc, _+_, _-_, _*_}
 use mathlib.Core.Bool.{cond}
 use mathlib.Core.List.{List, [], _∷_}
 use lib.Dec.{ltb, eqb}
-use Rattle.text.specs.declared.Number.{Number}
-use Rattle.text.specs.declared.Number.the-variants.{Is, Wrong}
-use Rattle.text.specs.declared.Place.{Place}
-use Rattle.text.specs.declared.Place.the-variants.{Next, Not}
+use Rattle.scan.specs.declared.Number.{Number}
+use Rattle.scan.specs.declared.Number.the-variants.{Is, Wrong}
+use Rattle.scan.specs.declared.Place.{Place}
+use Rattle.scan.specs.declared.Place.the-variants.{Next, Not}
 
 -- the value of a lowercase hexadecimal digit, and 16 for any other byte
 unfoldable pub hexValue : ℕ → ℕ

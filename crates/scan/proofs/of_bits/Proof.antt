@@ -1,9 +1,9 @@
--- `text::of_bits` meets its contract: the two tests of `nanBits`, in its own words.
+-- `scan::of_bits` meets its contract: the two tests of `nanBits`, in its own words.
 use lib.Ieee.{div, ofBits}
-use Rattle.text.proofs.Reading.{bits-plain, bits-whole, bits-nan}
+use Rattle.scan.proofs.Reading.{bits-plain, bits-whole, bits-nan}
 use borrow.Author.Needs.{needs}
-use Rattle.text.proofs.of_bits.Statement.{statement}
-use Rattle.text.proofs.of_bits.Tie as tie
+use Rattle.scan.proofs.of_bits.Statement.{statement}
+use Rattle.scan.proofs.of_bits.Tie as tie
 
 float-from-bits-result : tie.Need-float-from-bits-result
 float-from-bits-result c = bits-plain _ (c .if1 .taken)
