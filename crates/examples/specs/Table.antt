@@ -1,24 +1,59 @@
--- The settled examples, as one table over the written meanings, each row by computation.
+-- The settled examples P1 to P8, as one table over the written meanings, each row by computation.
 use mathlib.Core.Path.{_≡_, refl}
-use mathlib.Core.Bool.{true, false}
-use lib.IntN.{ℤ, pos, negsuc}
-use lib.Ieee.{Float, fin, binary64, mul, ofBits, ofInt, round, toSigned}
+use mathlib.Core.List.{List, [], _∷_}
+use Prim.Native.Nat.{ℕ}
+use lib.Ieee.{Float, binary64, ofBits, ofInt, toSigned, neg, mul, add, sub, div, lt, eq, le}
 use Rattle.floats.specs.Floor.{floorOf}
+use Rattle.domain.specs.Domain.{every}
+use Rattle.quad_spine.specs.declared.Spine.the-variants as spine
+use Rattle.quad_spine.specs.declared.Normal.the-variants as normal
+use Rattle.quad_spine.specs.Spine.{starAt, fourAt, distSq, longer, longest, inOrder, oriented, spineOf, placesOf, along, across, cFirst, hashOf, leastScale, normalOf, starsAnswer, placesAnswer, fourAnswer, spineAnswer, normalAnswer}
+use Rattle.quad_key.specs.declared.Hash.{Hash}
+use Rattle.quad_key.specs.Key.{laneOf, keyOf, neighbourKey}
 
--- the held floor of 100 v, rounded: what a key's lane is made of
-unfoldable pub hundredth : Float → ℤ
-unfolding mul floorOf ofInt toSigned
-hundredth v = toSigned 31 (floorOf (mul binary64 v (ofInt binary64 (pos 100))))
+-- the float of a pattern
+abbrev float : ℕ → Float
+float bits = ofBits binary64 bits
+
+-- 0.0, 0.5 and 1.0
+abbrev zero : Float
+zero = float 0
+
+abbrev half : Float
+half = float 0x3fe0_0000_0000_0000
+
+abbrev one : Float
+one = float 0x3ff0_0000_0000_0000
+
+-- the square (0,0) (1,0) (0,1) (1,1), its x and its y
+abbrev xs : List Float
+xs = zero ∷ one ∷ zero ∷ one ∷ []
+
+abbrev ys : List Float
+ys = zero ∷ zero ∷ one ∷ one ∷ []
+
+-- its hash
+abbrev square : Hash
+square = record { h0 = half; h1 = neg half; h2 = half; h3 = half }
 
 -- the rows
 pub record Table : Type 0 where
-  -- P4 to P8 up to the floor: -0.001, -5.5, 655, 1e300 and -1e300
-  pub p4 : hundredth (ofBits binary64 0xbf50_624d_d2f1_a9fc) ≡ negsuc 0
-  pub p5 : hundredth (ofBits binary64 0xc016_0000_0000_0000) ≡ negsuc 549
-  pub p6 : hundredth (ofBits binary64 0x4084_7800_0000_0000) ≡ pos 65500
-  pub p7 : hundredth (ofBits binary64 0x7e37_e43c_8800_759c) ≡ pos 2147483647
-  pub p8 : hundredth (ofBits binary64 0xfe37_e43c_8800_759c) ≡ negsuc 2147483647
+  -- P1: the square's spine is 0 and 3, and its hash 0.5, -0.5, 0.5, 0.5
+  pub p1-spine : spineAnswer xs ys 0 1 2 3 ≡ spine.Found (record { a = 0; b = 3; c = 1; d = 2 })
+  pub p1-hash : normalAnswer xs ys 0 3 1 2 ≡ normal.Hashed (record { h0 = half; h1 = neg half; h2 = half; h3 = half; a = 0; b = 3; c = 1; d = 2 })
+  -- P2: its key number 0
+  pub p2 : neighbourKey square 0 ≡ 0x0225_0225_01c1_0225
+  -- P3: its key number 40 is its own
+  pub p3 : neighbourKey square 40 ≡ keyOf square
+  -- P4 to P8: the lanes of -0.001, -5.5, 655, 1e300 and -1e300, the last as for 0
+  pub p4 : laneOf (float 0xbf50_624d_d2f1_a9fc) 1 ≡ 499
+  pub p5 : laneOf (float 0xc016_0000_0000_0000) 1 ≡ 65486
+  pub p6 : laneOf (float 0x4084_7800_0000_0000) 1 ≡ 464
+  pub p7 : laneOf (float 0x7e37_e43c_8800_759c) 1 ≡ 499
+  pub p8 : laneOf (float 0xfe37_e43c_8800_759c) 1 ≡ 500
+  pub p8-zero : laneOf zero 1 ≡ 500
 
+-- each row holds by computation
 pub table : Table
-unfolding hundredth ofBits
-table = record { p4 = refl; p5 = refl; p6 = refl; p7 = refl; p8 = refl }
+unfolding spineAnswer normalAnswer fourAnswer starsAnswer placesAnswer every starAt fourAt distSq longer longest inOrder oriented spineOf placesOf along across cFirst hashOf leastScale normalOf neighbourKey keyOf laneOf floorOf toSigned ofInt ofBits neg mul add sub div lt eq le
+table = record { p1-spine = refl; p1-hash = refl; p2 = refl; p3 = refl; p4 = refl; p5 = refl; p6 = refl; p7 = refl; p8 = refl; p8-zero = refl }

@@ -1,0 +1,77 @@
+-- `quad::needed` meets its contract. Assumes nothing.
+use borrow.Author.Needs.{needs}
+use Prim.Native.Nat.{ℕ, _+_, _-_, _*_, _≤_, _<_}
+use mathlib.Core.Path.{_≡_, refl, sym, _∙_, ap}
+use native.Mathlib.Omega.{arith}
+use borrow.Author.Needs.{scaled-fits}
+use lib.ListN.{length, take, drop, getD}
+use denote.Ref.{now}
+use Rattle.quad.specs.Quads.{quadOf, placesIn, allPlaces}
+use Rattle.quad_visit.proofs.Laws.{rest}
+use Rattle.quad.proofs.Laws.{Writing, start, step, at-most-4, count-more, count-end}
+use Rattle.quad.proofs.needed.Statement.{statement}
+use Rattle.quad.proofs.needed.Tie as tie
+
+abbrev Inv-loop : tie.InvT-loop
+Inv-loop xs ys least store n m₀ i₀ m i = (i ≤ n) × (m ≤ 4 * i) × (m + length (allPlaces xs ys least (drop i (take n store))) ≡ length (allPlaces xs ys least (take n store)))
+
+abbrev μ-loop : tie.MeasureT-loop
+μ-loop xs ys least store n m₀ i₀ m i = n - i
+
+loop-holds : tie.Need-loop-holds Inv-loop μ-loop
+loop-holds c = (omega arith, omega arith, omega arith)
+
+mul-quad-of : tie.Need-mul-quad-of Inv-loop μ-loop
+mul-quad-of c = omega (arith, c .before .before .before .before .before .pre)
+
+shared-slice-read-quad-of : tie.Need-shared-slice-read-quad-of Inv-loop μ-loop
+shared-slice-read-quad-of c = search needs
+
+quad-of-requires : tie.Need-quad-of-requires Inv-loop μ-loop
+quad-of-requires c κs = search needs
+
+size-of-requires : tie.Need-size-of-requires Inv-loop μ-loop
+size-of-requires c κs = search needs
+
+add-m : tie.Need-add-m Inv-loop μ-loop
+add-m c =
+    let q = at-most-4 (c .before .quad-of .result) in
+    let e = c .size-of .ensures in
+    omega (arith, c .before .before .before .before .loop .inv, c .before .before .before .before .before .before .before .before .pre)
+
+add-i : tie.Need-add-i Inv-loop μ-loop
+add-i c = search needs
+
+loop-less : tie.Need-loop-less Inv-loop μ-loop
+loop-less c = search needs
+
+loop-again : tie.Need-loop-again Inv-loop μ-loop
+loop-again c =
+    let a = c .before .before .before .before .before .before .before .before .args in
+    let l = c .before .before .before .before .loop in
+    let q = at-most-4 (quadOf (now (a .xs)) (now (a .ys)) (a .least) (getD (now (a .store)) (l .i) 0)) in
+    let e = rw (c .before .quad-of .ensures) at (c .size-of .ensures) in
+    let m = count-more (now (a .xs)) (now (a .ys)) (a .least) (now (a .store)) (a .n) (l .i) (c .before .before .before .loop-test .taken) (c .before .before .before .before .before .before .before .before .pre .0) in
+    (omega arith, omega (arith, l .inv), omega (arith, l .inv))
+
+returns : tie.Need-returns Inv-loop μ-loop
+returns c =
+    let a = c .before .before .before .before .before .args in
+    omega (arith, count-end (now (a .xs)) (now (a .ys)) (a .least) (now (a .store)) (a .n) (c .before .loop .i) (c .loop-test .left), c .before .loop .inv)
+
+pub needed-spec : {M : Type 1} → statement M
+needed-spec =
+    tie.close
+    (tie.spec
+    Inv-loop
+    μ-loop
+    loop-holds
+    mul-quad-of
+    shared-slice-read-quad-of
+    quad-of-requires
+    size-of-requires
+    add-m
+    add-i
+    loop-less
+    loop-again
+    returns)

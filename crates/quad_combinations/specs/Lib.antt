@@ -1,0 +1,3 @@
+pub mod Combinations
+pub mod All
+pub mod Examples

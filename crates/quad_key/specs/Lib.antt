@@ -1,0 +1,4 @@
+pub mod Key
+pub mod Steps
+pub mod Near
+pub mod Examples
