@@ -1,7 +1,7 @@
 -- What `scaled` makes of a pattern: the digits of a subnormal brought up by their leading zeros, and those of a normal value under their leading one. Assumes nothing.
-use mathlib.Core.Path.{_≡_, refl, sym, ap, _∙_, subst}
-use Prim.Native.Nat.{ℕ, zero, suc, _+_, _-_, _*_, _/_, _%_, _^_, _≤_, _<_}
-use native.Mathlib.Nat.{mul-assoc, mul-comm, mod-lt, mod-eq-of-lt, lt-of-le-of-lt, lt-of-lt-of-le, lt-of-not-le, lt-irrefl, le-trans, le-of-eq, mul-le-mul-right, mul-lt-mul-of-pos-right}
+use mathlib.Core.Path.{_≡_, sym, ap, _∙_, subst}
+use Prim.Native.Nat.{ℕ, suc, _+_, _-_, _*_, _/_, _%_, _^_, _≤_, _<_}
+use native.Mathlib.Nat.{mul-assoc, mul-comm, mod-lt, lt-of-le-of-lt, lt-of-lt-of-le, lt-of-not-le, lt-irrefl, le-trans, le-of-eq, mul-le-mul-right}
 use native.Mathlib.Omega.{arith}
 use lib.Pow.{pow-add, pow-pos, pow-mono, shl-lt, shl-exact}
 use lib.Bits.{bitAnd, and-mask}

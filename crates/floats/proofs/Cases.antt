@@ -11,7 +11,7 @@ use lib.Ieee.Positive.{positive}
 use Rattle.floats.specs.Root.{rootSquared, rootUnits, rootOf, IsRoot, PositiveRoot}
 use Rattle.floats.specs.Steps.{unitsAt, Rooted}
 use Rattle.floats.proofs.Tests.{yes, clash, zero-float, zero-not-below, zero-equal, above-not-below, other-not-zero, below-zero, inf-below, inf-not-below, inf-not-zero, nan-not-below, nan-not-zero}
-use Rattle.floats.proofs.Patterns.{Pattern, pattern}
+use Rattle.floats.proofs.Patterns.{pattern}
 use Rattle.floats.proofs.Grid.{nearest-root}
 use Rattle.floats.proofs.Computed.{computed}
 

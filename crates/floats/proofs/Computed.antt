@@ -1,18 +1,18 @@
 -- `rootUnits` computes the value of a `Rooted` pattern. Assumes nothing.
 use mathlib.Core.Path.{_≡_, refl, sym, ap, _∙_, subst}
 use mathlib.Core.Bool.{Bool, true, false, cond}
-use Prim.Native.Nat.{ℕ, zero, suc, _+_, _-_, _*_, _/_, _%_, _^_, _≤_, _<_, zero-le}
-use native.Mathlib.Nat.{mul-assoc, mul-comm, mul-one, one-mul, add-mul, mul-add, add-assoc, add-comm, add-left-comm, mul-le-mul, mul-le-mul-left, mul-le-mul-right, mul-mul-mul-comm, div-lt-iff-lt-mul, le-div-iff-mul-le, le-trans, le-of-eq, le-of-lt, lt-of-le-of-lt, lt-of-lt-of-le, le-antisymm, le-of-suc-le-suc, mul-left-comm, suc-mul, pow-suc, pow-succ'}
+use Prim.Native.Nat.{ℕ, zero, suc, _+_, _-_, _*_, _/_, _^_, _≤_, _<_, zero-le}
+use native.Mathlib.Nat.{add-mul, mul-add, add-assoc, add-comm, add-left-comm, mul-le-mul, mul-le-mul-right, mul-mul-mul-comm, div-lt-iff-lt-mul, le-div-iff-mul-le, le-of-lt, lt-of-le-of-lt, lt-of-lt-of-le, pow-suc}
 use native.Mathlib.Omega.{arith}
 use lib.Dec.{T, leb, ltb, leb→le, nleb→lt, lt→ltb}
 use lib.Pow.{pow-add, pow-pos, pow-mono, shl-lt}
-use lib.Ieee.{Float, nan, inf, fin, binary64, size, odd, units, fits, ofBits}
+use lib.Ieee.{Float, nan, inf, fin, binary64, size, odd, units, ofBits}
 use lib.Ieee.Digits.{size-lt, size-le}
 use lib.Ieee.Fits.{odd-fits}
 use lib.Ieee.Bits.{ofBits-fits}
 use lib.Ieee.Exact.{HasValue, odd-sign}
 use lib.Ieee.Scale.{finite}
-use Rattle.floats.specs.Root.{inUnits, rootBelow, rootUnits}
+use Rattle.floats.specs.Root.{rootBelow, rootUnits}
 use Rattle.floats.specs.Steps.{Rooted}
 use Rattle.floats.proofs.Brought.{pow-lt-back}
 use Rattle.floats.proofs.Halves.{root-lt}

@@ -1,6 +1,6 @@
 -- The floor of a float, and the floor held to the range of an i32, by the tests that the code makes. Assumes nothing.
 use mathlib.Core.Path.{_≡_, refl, sym, ap, _∙_, subst}
-use mathlib.Core.Logic.{_⊎_, inl, inr}
+use mathlib.Core.Logic.{inl, inr}
 use mathlib.Core.Bool.{Bool, true, false, cond, _&&_, true≢false}
 use Prim.Native.Nat.{ℕ, zero, suc, _+_, _-_, _*_, _/_, _%_, _^_, _≤_, _<_, min}
 use native.Mathlib.Nat.{mul-one, mul-assoc, zero-mul, div-one, div-eq-of-lt, le-of-eq, le-of-lt, lt-of-le-of-lt, lt-irrefl, le-div-iff-mul-le, mul-pos, zero-lt-suc, add-zero, mul-lt-mul-of-pos-right}
@@ -13,7 +13,7 @@ use lib.Ieee.Fits.{down-pos, and-l, and-r, neg-fits, round-fits}
 use lib.Ieee.Exact.{HasValue, round-exact}
 use lib.Ieee.Back.{round-whole, whole-unique}
 use lib.Ieee.Positive.{num, den, positive, den-pos}
-use Rattle.floats.specs.Floor.{ceilDiv, floorFraction, floorOf}
+use Rattle.floats.specs.Floor.{ceilDiv, floorOf}
 use Rattle.floats.proofs.Tests.{clash, zero-float, above-zero, below-zero, inf-above, inf-below}
 use Rattle.floats.proofs.Division.{ceil-le, ceil-ge, capped, at-cap}
 use Rattle.floats.proofs.Fractions.{Within, Beyond, whole-lt}

@@ -1,13 +1,13 @@
 -- What a comparison of a float with a constant says of its fraction `num` / `den`, and what a cast to a whole number makes of that. Assumes nothing.
 use mathlib.Core.Path.{_≡_, refl, sym, ap, _∙_, subst}
 use mathlib.Core.Logic.{_⊎_, inl, inr}
-use mathlib.Core.Bool.{Bool, true, false, true≢false}
+use mathlib.Core.Bool.{true, false, true≢false}
 use Prim.Native.Nat.{ℕ, zero, suc, _+_, _-_, _*_, _/_, _^_, _≤_, _<_, min}
 use native.Mathlib.Nat.{mul-one, mul-right-comm, mul-le-mul-right, lt-of-mul-lt-mul-right, le-of-mul-le-mul-right, le-of-eq, le-trans, lt-of-le-of-lt, div-lt-iff-lt-mul, mul-pos, zero-lt-suc}
 use native.Mathlib.Omega.{arith}
 use borrow.Author.Tests.{ltb-true, ltb-false}
 use lib.IntN.{pos}
-use lib.Dec.{T, ltb, ltb→lt, lt→ltb, le→leb}
+use lib.Dec.{T, ltb→lt, lt→ltb, le→leb}
 use lib.Ieee.{Float, nan, inf, fin, binary64, up, down, neg, lt, ofInt, toUnsigned, inFloat}
 use lib.Ieee.Fits.{up-pos, down-pos}
 use lib.Ieee.Exact.{HasValue}

@@ -1,23 +1,23 @@
 -- From 2 ^ 52 * 2 ^ h units on, every f64 is a whole number of 2 ^ h units. So a `Rooted` pattern's value is the nearest f64 to the root. Assumes nothing.
 use mathlib.Core.Path.{_≡_, refl, sym, ap, _∙_, subst}
 use mathlib.Core.Logic.{_⊎_, inl, inr}
-use mathlib.Core.Bool.{Bool, true, false, cond}
+use mathlib.Core.Bool.{false}
 use Prim.Native.Nat.{ℕ, zero, suc, _+_, _-_, _*_, _/_, _%_, _^_, _≤_, _<_}
-use native.Mathlib.Nat.{mul-assoc, mul-one, add-mul, mul-le-mul, mul-le-mul-right, mul-lt-mul-of-pos-right, lt-of-mul-lt-mul-right, mod-lt, le-trans, le-of-eq, le-of-lt, lt-of-le-of-lt, lt-of-lt-of-le, le-of-suc-le-suc, eq-or-lt-of-le, le-add-right}
+use native.Mathlib.Nat.{mul-assoc, mul-one, add-mul, mul-le-mul, mul-le-mul-right, lt-of-mul-lt-mul-right, mod-lt, le-trans, le-of-eq, le-of-lt, lt-of-le-of-lt, lt-of-lt-of-le, eq-or-lt-of-le}
 use native.Mathlib.Decide.{decLe}
 use native.Mathlib.Omega.{arith}
-use lib.Dec.{T, leb, lt→ltb}
+use lib.Dec.{T, leb}
 use lib.Pow.{pow-add, pow-pos, shl-lt}
-use lib.Ieee.{Float, nan, inf, fin, binary64, fits, ofFields, ofBits, toBits}
+use lib.Ieee.{Float, binary64, fits, ofFields, ofBits, toBits}
 use lib.Ieee.Bits.{ofBits-toBits, ofBits-fits}
 use lib.Ieee.Exact.{HasValue}
 use lib.Ieee.Scale.{finite}
-use lib.Ieee.Positive.{positive, positive-of-value}
-use Rattle.floats.specs.Root.{inUnits, rootSquared, Nearer, Nearest, PositiveRoot}
+use lib.Ieee.Positive.{positive-of-value}
+use Rattle.floats.specs.Root.{inUnits, rootSquared, Nearer, PositiveRoot}
 use Rattle.floats.specs.Steps.{fieldUnits, unitsAt, Rooted}
 use Rattle.floats.proofs.Brought.{pow-lt-back}
 use Rattle.floats.proofs.Halves.{square-lt}
-use Rattle.floats.proofs.Patterns.{ofBits-is, read, units-are, of-pattern, Pattern, pattern}
+use Rattle.floats.proofs.Patterns.{ofBits-is, read, units-are, of-pattern, pattern}
 
 -- ---- the units of any finite f64 are at most 53 digits and zeros after them
 

@@ -1,8 +1,7 @@
 -- From the whole part q of a root of 54 digits to the nearest value of 53: (q + 1) / 2. Assumes nothing.
 use mathlib.Core.Path.{_≡_, refl, sym, ap, _∙_, subst}
-use mathlib.Core.Logic.{_⊎_, inl, inr}
 use Prim.Native.Nat.{ℕ, zero, suc, _+_, _-_, _*_, _/_, _%_, _^_, _≤_, _<_}
-use native.Mathlib.Nat.{mul-assoc, mul-comm, mul-left-comm, mul-right-comm, mul-mul-mul-comm, mul-add, add-mul, add-assoc, add-comm, add-left-comm, two-mul, mul-le-mul, mul-le-mul-right, mul-lt-mul-of-pos-right, mul-pos, le-trans, le-of-eq, lt-of-le-of-lt, lt-of-lt-of-le, lt-of-not-le, not-le-of-lt, eq-of-mul-eq-mul-right, mul-one}
+use native.Mathlib.Nat.{mul-assoc, mul-comm, mul-left-comm, mul-mul-mul-comm, mul-add, add-mul, add-assoc, add-comm, add-left-comm, mul-le-mul, mul-le-mul-right, mul-lt-mul-of-pos-right, mul-pos, le-trans, le-of-eq, lt-of-le-of-lt, lt-of-lt-of-le, lt-of-not-le, not-le-of-lt, eq-of-mul-eq-mul-right}
 use native.Mathlib.Omega.{arith}
 use lib.Pow.{pow-add, pow-pos}
 use Rattle.floats.specs.Steps.{unitsAt, Scaled53, Rooted}

@@ -1,12 +1,11 @@
 -- What the pattern of a finite f64 stands for, in units of 2 ^ -1074; and two finite f64 of one sign and one number of units are the same. Assumes nothing.
 use mathlib.Core.Path.{_≡_, refl, sym, ap, _∙_, subst}
 use mathlib.Core.Bool.{Bool, true, false, not, cond}
-use Prim.Native.Nat.{ℕ, zero, suc, _+_, _-_, _*_, _/_, _%_, _^_, _≤_, _<_}
-use native.Mathlib.Nat.{mul-one, mul-div-cancel, mod-lt, mod-eq-of-lt, lt-of-le-of-lt, lt-of-lt-of-le, not-le-of-lt, mul-comm}
+use Prim.Native.Nat.{ℕ, zero, suc, _+_, _-_, _*_, _/_, _%_, _^_, _<_}
+use native.Mathlib.Nat.{mul-one, mul-div-cancel, mod-eq-of-lt, not-le-of-lt}
 use native.Mathlib.Omega.{arith}
 use lib.IntN.{ℤ}
-use lib.Dec.{T, leb, ltb, eqb, eqb→eq, nleb→lt, not-T, leb→le}
-use lib.Pow.{pow-pos}
+use lib.Dec.{T, leb, eqb, eqb→eq, nleb→lt, not-T, leb→le}
 use lib.Ieee.{Float, nan, inf, fin, binary64, up, down, size, odd, fits, isNan, ofFields, ofBits, nanBits, toBits}
 use lib.Ieee.Fits.{eq→eqb, down-pos}
 use lib.Ieee.Bits.{is-false, cond-no, ofBits-toBits, nanBits-is}

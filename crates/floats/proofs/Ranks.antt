@@ -1,16 +1,16 @@
 -- The f64 that are not below zero stand in the order of their patterns. Assumes nothing.
 use mathlib.Core.Path.{_≡_, refl, sym, ap, _∙_, subst}
 use mathlib.Core.Logic.{_⊎_, inl, inr}
-use mathlib.Core.Bool.{Bool, true, false, not, _&&_, _||_}
-use Prim.Native.Nat.{ℕ, zero, suc, _+_, _-_, _*_, _/_, _%_, _^_, _≤_, _<_, zero-le}
-use native.Mathlib.Nat.{mul-pos, zero-lt-suc, pow-suc, mul-le-mul-right, le-of-mul-le-mul-right, mul-lt-mul-of-pos-right, le-refl, le-of-lt, le-trans, lt-of-lt-of-le, lt-of-le-of-lt, lt-irrefl, le-of-suc-le-suc, lt-of-not-le, not-le-of-lt, le-of-eq, eq-or-lt-of-le}
+use mathlib.Core.Bool.{Bool, true, false, _&&_, _||_}
+use Prim.Native.Nat.{ℕ, zero, suc, _+_, _*_, _/_, _%_, _^_, _≤_, _<_, zero-le}
+use native.Mathlib.Nat.{mul-pos, zero-lt-suc, pow-suc, mul-le-mul-right, le-of-mul-le-mul-right, mul-lt-mul-of-pos-right, le-refl, le-of-lt, le-trans, lt-of-lt-of-le, lt-of-le-of-lt, le-of-suc-le-suc, lt-of-not-le, not-le-of-lt, le-of-eq, eq-or-lt-of-le}
 use native.Mathlib.Decide.{decLt, ℕ-discrete}
 use native.Mathlib.Omega.{arith}
-use borrow.Author.Tests.{lt-ltb, le-ltb, ne-eqb}
+use borrow.Author.Tests.{le-ltb, ne-eqb}
 use lib.IntN.{ℤ, pos}
 use lib.Dec.{T, ltb, eqb, lt→ltb}
 use lib.Pow.{pow-pos}
-use lib.Ieee.{Float, nan, inf, fin, binary64, up, down, fits, isNan, ofBits, toBits, le, lt, eq}
+use lib.Ieee.{Float, nan, inf, fin, binary64, up, down, fits, ofBits, toBits, le, lt, eq}
 use lib.Ieee.Fits.{up-pos, down-pos, inf-fits}
 use lib.Ieee.Bits.{ofBits-fits, toBits-ofBits}
 use lib.Ieee.Exact.{HasValue}
@@ -20,7 +20,7 @@ use Rattle.floats.specs.Root.{inUnits, nextUp}
 use Rattle.floats.specs.Steps.{fieldUnits, unitsAt}
 use Rattle.floats.proofs.Tests.{clash, zero-float, below-zero, inf-below}
 use Rattle.floats.proofs.Signs.{zero-exponent}
-use Rattle.floats.proofs.Patterns.{pattern, of-pattern, whole-units, finite-no-nan, sign, sign-positive}
+use Rattle.floats.proofs.Patterns.{pattern, of-pattern, whole-units, finite-no-nan, sign-positive}
 
 -- ---- a higher pattern has more units
 

@@ -2,17 +2,15 @@
 use mathlib.Core.Path.{_≡_, refl, sym, ap, _∙_, subst}
 use mathlib.Core.Logic.{_⊎_, inl, inr}
 use mathlib.Core.Bool.{Bool, true, false}
-use Prim.Native.Nat.{ℕ, zero, suc, _+_, _*_, _^_, _≤_, _<_, zero-le}
-use native.Mathlib.Nat.{add-comm, mul-le-mul-right, le-refl, le-of-lt, le-trans, le-of-suc-le-suc, lt-of-not-le, not-le-of-lt, lt-of-lt-of-le, lt-irrefl}
-use native.Mathlib.Decide.{decLe}
+use Prim.Native.Nat.{ℕ, suc, _+_, _*_, _^_, _≤_, _<_, zero-le}
+use native.Mathlib.Nat.{add-comm, mul-le-mul-right, le-refl, le-of-lt, le-trans, le-of-suc-le-suc, lt-of-not-le, not-le-of-lt}
 use native.Mathlib.Omega.{arith}
 use lib.IntN.{pos}
 use lib.Dec.{T}
 use lib.Ieee.{Float, nan, inf, fin, binary64, fits, le, lt, eq}
 use lib.Ieee.Fits.{inf-fits}
-use lib.Ieee.Positive.{positive, positive-finite}
+use lib.Ieee.Positive.{positive-finite}
 use Rattle.floats.specs.Root.{inUnits, rootSquared, PositiveRoot, rootOf, nextUp}
-use Rattle.floats.specs.Steps.{unitsAt}
 use Rattle.floats.proofs.Tests.{yes, no, clash, zero-float}
 use Rattle.floats.proofs.Cases.{below-root}
 use Rattle.floats.proofs.Laws.{positive-has}

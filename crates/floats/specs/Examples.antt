@@ -1,9 +1,8 @@
 -- Worked examples, each by computation.
 use mathlib.Core.Path.{_≡_, refl}
-use mathlib.Core.Bool.{true, false}
-use Prim.Native.Nat.{_^_}
+use mathlib.Core.Bool.{false}
 use lib.IntN.{pos, negsuc}
-use lib.Ieee.{nan, inf, fin, binary64, mul, ofBits, toBits, ofInt, toSigned}
+use lib.Ieee.{inf, fin, binary64, mul, ofBits, toBits, ofInt, toSigned}
 use Rattle.floats.specs.Magnitude.{magnitudeOf}
 use Rattle.floats.specs.Floor.{floorOf}
 use Rattle.floats.specs.Power.{powerOf}

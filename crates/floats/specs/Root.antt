@@ -1,9 +1,8 @@
 -- The square root of every f64, as IEEE 754 has it, over whole numbers. `IsRoot x r` says which value r is the root of x, and `rootOf x` computes it. Definitions only.
 -- A finite f64 is a whole number of units of 2 ^ -1074, the least f64 above zero. Where x is X units, its exact root in units is the root of X * 2 ^ 1074.
 use mathlib.Core.Path.{_≡_}
-use mathlib.Core.Bool.{Bool, true, false, cond}
+use mathlib.Core.Bool.{true, false, cond}
 use Prim.Native.Nat.{ℕ, zero, suc, _+_, _-_, _*_, _/_, _^_, _<_}
-use lib.IntN.{pos}
 use lib.Dec.{T, leb}
 use lib.Ieee.{Float, nan, inf, fin, binary64, up, down, size, units, fits, ofBits, toBits}
 use lib.Ieee.Scale.{finite}

@@ -1,6 +1,6 @@
 -- Laws of the quads that are counted and written. Assumes nothing.
-use Prim.Native.Nat.{ℕ, zero, suc, _+_, _/_, _≤_, _<_}
-use mathlib.Core.Path.{_≡_, refl, sym, _∙_, ap, subst}
+use Prim.Native.Nat.{ℕ, suc, _+_, _/_, _≤_, _<_}
+use mathlib.Core.Path.{_≡_, refl, _∙_, ap}
 use mathlib.Core.Bool.{Bool, true, false, cond, _||_}
 use mathlib.Core.List.{List, [], _∷_, _++_}
 use native.Mathlib.Omega.{arith}
@@ -10,7 +10,6 @@ use lib.Dec.{ltb}
 use lib.ListN.{set, length, getD, take, drop, length-append, length-take, drop-of-length-le}
 use lib.Seq.{sets-eq, sets, length-sets}
 use lib.Ieee.{Float}
-use Rattle.domain.specs.Domain.{isLimit}
 use Rattle.domain.specs.declared.Refusal.{Refusal}
 use Rattle.domain.specs.declared.Refusal.the-variants as refusal
 use Rattle.domain.specs.declared.Answer.{Answer}

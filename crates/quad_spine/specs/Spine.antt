@@ -176,15 +176,17 @@ normalAfter (answer.Refused why) s = normal.Refused why
 unfoldable pub normalAnswer : List Float → List Float → ℕ → ℕ → ℕ → ℕ → Normal
 normalAnswer xs ys a b c d = normalAfter (fourAnswer xs ys a b c d) (normalOf (fourAt xs ys a b c d))
 
--- The numbers of the three answers: 0 is done.
+-- The number of an answer of `find_spine`: 0 is done.
 abbrev pub spineNumber : Spine → ℕ
 spineNumber (spine.Found places) = 0
 spineNumber (spine.Refused why) = numberOf why
 
+-- The number of an answer of `orient_spine`.
 abbrev pub orientedNumber : Oriented → ℕ
 orientedNumber (turned.Pair a b) = 0
 orientedNumber (turned.Refused why) = numberOf why
 
+-- The number of an answer of `normalize_quad_ordered`.
 abbrev pub normalNumber : Normal → ℕ
 normalNumber (normal.Hashed quad) = 0
 normalNumber (normal.Refused why) = numberOf why

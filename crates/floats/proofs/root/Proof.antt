@@ -1,9 +1,8 @@
 -- `floats::root` meets its contract. Assumes nothing.
 use mathlib.Core.Path.{_≡_, sym, subst}
 use mathlib.Core.Logic.{_⊎_}
-use mathlib.Core.Bool.{not}
 use lib.Dec.{T}
-use lib.Ieee.{Float, inf, binary64, fits}
+use lib.Ieee.{inf, binary64, fits}
 use lib.Ieee.Positive.{positive}
 use mathlib.Core.Bool.{false}
 use Rattle.floats.proofs.Tests.{is-no-nan}

@@ -1,8 +1,8 @@
 -- `floats::root_bits` meets its contract. Assumes nothing.
 use borrow.Author.Needs.{needs}
-use mathlib.Core.Path.{_≡_, sym, subst}
+use mathlib.Core.Path.{sym, subst}
 use mathlib.Core.Logic.{⊎-elim}
-use Prim.Native.Nat.{ℕ, _+_, _*_, _^_, _≤_, _<_}
+use Prim.Native.Nat.{ℕ}
 use native.Mathlib.Omega.{arith}
 use Rattle.floats.proofs.Halves.{Evened, even, uneven, q-high, rooted}
 use Rattle.floats.proofs.root_bits.Statement.{statement}

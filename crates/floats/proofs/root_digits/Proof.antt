@@ -1,6 +1,6 @@
 -- `floats::root_digits` meets its contract. The invariant is `Digits`, and the measure is the bit. Assumes nothing.
-use mathlib.Core.Path.{_≡_, refl}
-use Prim.Native.Nat.{ℕ, _+_, _*_, _^_, _≤_, _<_}
+use mathlib.Core.Path.{refl}
+use Prim.Native.Nat.{_*_, _^_}
 use native.Mathlib.Omega.{arith}
 use Rattle.floats.proofs.Digits.{Digits, set, clear, whole}
 use Rattle.floats.proofs.root_digits.Statement.{statement}

@@ -1,10 +1,9 @@
 -- `floats::scaled` meets its contract. Assumes nothing.
 use borrow.Author.Needs.{needs}
-use Prim.Native.Nat.{ℕ, _+_, _<_}
 use native.Mathlib.Omega.{arith}
 use lib.Bits.{bitAnd}
 use lib.Count.{leading-le}
-use Rattle.floats.proofs.Brought.{Up, subnormal, brought, normal, digits-lt}
+use Rattle.floats.proofs.Brought.{subnormal, brought, normal, digits-lt}
 use Rattle.floats.proofs.scaled.Statement.{statement}
 use Rattle.floats.proofs.scaled.Tie as tie
 

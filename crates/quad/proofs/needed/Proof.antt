@@ -1,14 +1,12 @@
 -- `quad::needed` meets its contract. Assumes nothing.
 use borrow.Author.Needs.{needs}
-use Prim.Native.Nat.{ℕ, _+_, _-_, _*_, _≤_, _<_}
-use mathlib.Core.Path.{_≡_, refl, sym, _∙_, ap}
+use Prim.Native.Nat.{_+_, _-_, _*_, _≤_}
+use mathlib.Core.Path.{_≡_}
 use native.Mathlib.Omega.{arith}
-use borrow.Author.Needs.{scaled-fits}
 use lib.ListN.{length, take, drop, getD}
 use denote.Ref.{now}
-use Rattle.quad.specs.Quads.{quadOf, placesIn, allPlaces}
-use Rattle.quad_visit.proofs.Laws.{rest}
-use Rattle.quad.proofs.Laws.{Writing, start, step, at-most-4, count-more, count-end}
+use Rattle.quad.specs.Quads.{quadOf, allPlaces}
+use Rattle.quad.proofs.Laws.{at-most-4, count-more, count-end}
 use Rattle.quad.proofs.needed.Statement.{statement}
 use Rattle.quad.proofs.needed.Tie as tie
 

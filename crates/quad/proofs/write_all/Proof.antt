@@ -1,14 +1,12 @@
 -- `quad::write_all` meets its contract. Assumes nothing.
 use borrow.Author.Needs.{needs}
-use Prim.Native.Nat.{ℕ, _+_, _-_, _*_, _≤_, _<_}
-use mathlib.Core.Path.{_≡_, refl, sym, _∙_, ap}
+use Prim.Native.Nat.{_+_, _-_, _≤_}
 use native.Mathlib.Omega.{arith}
 use borrow.Author.Needs.{scaled-fits}
 use lib.ListN.{length, take, drop, getD}
 use denote.Ref.{now}
-use Rattle.quad.specs.Quads.{quadOf, placesIn, allPlaces}
 use Rattle.quad_visit.proofs.Laws.{rest}
-use Rattle.quad.proofs.Laws.{Writing, start, step, none-left, at-most-4, count-more, count-end}
+use Rattle.quad.proofs.Laws.{Writing, start, step, none-left, count-more}
 use Rattle.quad.proofs.write_all.Statement.{statement}
 use Rattle.quad.proofs.write_all.Tie as tie
 
