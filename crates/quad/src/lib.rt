@@ -8,7 +8,8 @@ ghost use mathlib.Core.Path.{_≡_};
 ghost use Prim.Native.Nat.{ℕ, _+_, _<_, _≤_};
 ghost use lib.ListN.{length, take};
 ghost use lib.Seq.{sets};
-ghost use Rattle.quad.specs.Quads.{fourOf, triedOf, quadOf, placesIn, hashIn, allPlaces, allHashes, inputAnswer, quadPlaces, quadHashes, roomAnswer, quadsAnswer, lentAfterQuads};
+ghost use Rattle.quad.specs.Quads.{fourOf, triedOf, quadOf, placesIn, hashIn, allPlaces, allHashes, inputAnswer, quadPlaces};
+ghost use Rattle.quad.specs.Quads.{quadHashes, roomAnswer, quadsAnswer, lentAfterQuads};
 
 // The most neighbours of a seed.
 const MOST_NEIGHBOURS: usize = 10;
@@ -85,7 +86,9 @@ fn needed(xs: &[f64], ys: &[f64], least: f64, store: &[u32], n: usize) -> usize
 // Writes a quad at p of both lists, and says where the next one goes.
 fn write_one(places: &mut [u8], hashes: &mut [f64], p: usize, q: Tried) -> usize
     requires { ⌜ p + length (placesIn q) ≤ length (now places) ⌝ ∗ ⌜ p + length (placesIn q) ≤ length (now hashes) ⌝ }
-    ensures { λ r. ⌜ (r ≡ p + length (placesIn q)) × (now (places .exit) ≡ sets (now (places .entry)) p (placesIn q)) × (now (hashes .exit) ≡ sets (now (hashes .entry)) p (hashIn q)) ⌝ }
+    ensures { λ r. ⌜ (r ≡ p + length (placesIn q))
+        × (now (places .exit) ≡ sets (now (places .entry)) p (placesIn q))
+        × (now (hashes .exit) ≡ sets (now (hashes .entry)) p (hashIn q)) ⌝ }
 {
     match q {
         Tried::Kept(h) => {
@@ -114,7 +117,9 @@ fn write_all(
     places: &mut [u8],
     hashes: &mut [f64],
 ) -> usize
-    requires { ⌜ n ≤ length (now store) ⌝ ∗ ⌜ length (allPlaces (now xs) (now ys) least (take n (now store))) ≤ length (now places) ⌝ ∗ ⌜ length (allPlaces (now xs) (now ys) least (take n (now store))) ≤ length (now hashes) ⌝ }
+    requires { ⌜ n ≤ length (now store) ⌝
+        ∗ ⌜ length (allPlaces (now xs) (now ys) least (take n (now store))) ≤ length (now places) ⌝
+        ∗ ⌜ length (allPlaces (now xs) (now ys) least (take n (now store))) ≤ length (now hashes) ⌝ }
     ensures { λ r. ⌜ (now (places .exit) ≡ sets (now (places .entry)) 0 (allPlaces (now (xs .entry)) (now (ys .entry)) least (take n (now (store .entry)))))
         × (now (hashes .exit) ≡ sets (now (hashes .entry)) 0 (allHashes (now (xs .entry)) (now (ys .entry)) least (take n (now (store .entry))))) ⌝ }
 {
