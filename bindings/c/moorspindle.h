@@ -7,6 +7,10 @@
    clip's number 8, which keeps the rejections made so far and the last good CD numbers.
    On success places past the result keep their old values.
 
+   A list of length 0 is neither read nor written, so that its pointer may be null. The
+   pointer of a longer list, and of a number, is to memory of that size and alignment. What
+   is lent as an output overlaps nothing else that is lent to the same call.
+
    Rows are four lists of one length: px, py (pixels), xi, eta (tangent plane).
    Star places are bytes: a list has at most 100 stars. A quad is four places A, B, C, D
    and four hash numbers; a match is eight places, the image quad's four and then the
@@ -22,4 +26,26 @@ double  moorspindle_magnitude(double x);
 int32_t moorspindle_floor(double x);              /* floor, held to the int32_t range; NaN gives 0 */
 double  moorspindle_root(double x);
 double  moorspindle_power(double u, uint32_t p);  /* u^0 is 1, u^(p+1) is u^p times u */
+
+/* ---- quad.rs. What each can answer beside 0: find_spine 1 2 3 4 7, orient_spine 3 7,
+   normalize_quad_ordered 1 2 3 4 7 8, combinations_4 1 7, combinations_4_next 1 2 3 4 7,
+   neighbor_quads 1 2 3 7, discrete_hash_key_neighbors 7 */
+uint32_t moorspindle_find_spine(const double *xs, size_t, const double *ys, size_t,
+        uint8_t p0, uint8_t p1, uint8_t p2, uint8_t p3,
+        uint8_t *spine, size_t);                                     /* A, B, then the other two */
+uint32_t moorspindle_orient_spine(double ax, double ay, uint8_t a,
+        double bx, double by, uint8_t b, uint8_t *pair, size_t);     /* 2 places */
+uint32_t moorspindle_normalize_quad_ordered(const double *xs, size_t, const double *ys, size_t,
+        uint8_t a, uint8_t b, uint8_t c, uint8_t d,
+        double *hash, size_t, uint8_t *places, size_t);              /* 4 and 4 */
+/* the state of combinations_4: four places and a byte that is 1 when done (5 bytes) */
+uint32_t moorspindle_combinations_4(uint32_t n, uint8_t *state, size_t);
+uint32_t moorspindle_combinations_4_next(uint32_t n, uint8_t *state, size_t,
+        uint8_t *places, size_t, uint8_t *given);    /* *given 1: a set stands in places; 0: none was left, places unchanged */
+uint32_t moorspindle_neighbor_quads(const double *xs, size_t, const double *ys, size_t,
+        uint32_t k, double min_spine_sq,
+        uint8_t *places, size_t, double *hashes, size_t, uint64_t *quads);  /* 4 and 4 for each quad */
+uint64_t moorspindle_discrete_hash_key(double h0, double h1, double h2, double h3);
+uint32_t moorspindle_discrete_hash_key_neighbors(double h0, double h1, double h2, double h3,
+        uint64_t *keys, size_t);                                     /* 81 */
 #endif

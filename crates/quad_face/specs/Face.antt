@@ -1,0 +1,208 @@
+-- What each call answers and writes when its result goes into lent lists. Definitions only.
+use mathlib.Core.Bool.{Bool, true, false, cond, not}
+use mathlib.Core.List.{List, [], _∷_}
+use Prim.Native.Nat.{ℕ}
+use lib.Dec.{ltb, eqb}
+use lib.ListN.{length, getD}
+use lib.Ieee.{Float}
+use Rattle.domain.specs.Answers.{numberOf}
+use Rattle.domain.specs.Domain.{isMaskByte}
+use Rattle.domain.specs.declared.Refusal.{Refusal}
+use Rattle.domain.specs.declared.Refusal.the-variants as refusal
+use Rattle.domain.specs.declared.Answer.{Answer}
+use Rattle.domain.specs.declared.Answer.the-variants as answer
+use Rattle.quad_key.specs.declared.Hash.{Hash}
+use Rattle.quad_spine.specs.declared.Star.{Star}
+use Rattle.quad_spine.specs.declared.Spine.{Spine}
+use Rattle.quad_spine.specs.declared.Spine.the-variants as spine
+use Rattle.quad_spine.specs.declared.Oriented.{Oriented}
+use Rattle.quad_spine.specs.declared.Oriented.the-variants as turned
+use Rattle.quad_spine.specs.declared.Normal.{Normal}
+use Rattle.quad_spine.specs.declared.Normal.the-variants as normal
+use Rattle.quad_spine.specs.declared.Quad.{Quad}
+use Rattle.quad_spine.specs.Spine.{first, spineAnswer, orientAnswer, normalAnswer}
+use Rattle.quad_combinations.specs.declared.State.{State}
+use Rattle.quad_combinations.specs.declared.Start.{Start}
+use Rattle.quad_combinations.specs.declared.Start.the-variants as start
+use Rattle.quad_combinations.specs.declared.Step.{Step}
+use Rattle.quad_combinations.specs.declared.Step.the-variants as step
+use Rattle.quad_combinations.specs.Combinations.{four, startOf, stepOf}
+use Rattle.quad.specs.declared.Quads.{Quads}
+use Rattle.quad.specs.declared.Quads.the-variants as quads
+use Rattle.quad.specs.Quads.{quadsAnswer}
+
+-- number 7 where a lent list has fewer places than the result needs
+abbrev pub roomFor : ℕ → ℕ → Answer
+roomFor need places = cond (ltb places need) (answer.Refused refusal.Room) answer.Done
+
+-- a lent number after a call: the result when it is done, and the old one when it is refused
+abbrev pub numberAfter : Answer → ℕ → ℕ → ℕ
+numberAfter answer.Done new old = new
+numberAfter (answer.Refused why) new old = old
+
+-- whether a spine was found
+abbrev pub spineDone : Spine → Answer
+spineDone (spine.Found p) = answer.Done
+spineDone (spine.Refused why) = answer.Refused why
+
+-- the four places of a spine; a refusal has none
+abbrev pub spinePlaces : Spine → List ℕ
+spinePlaces (spine.Found p) = p .a ∷ p .b ∷ p .c ∷ p .d ∷ []
+spinePlaces (spine.Refused why) = []
+
+-- the answer of `find_spine`: its refusals, then number 7 below 4 places
+abbrev pub spineFace : List Float → List Float → ℕ → ℕ → ℕ → ℕ → ℕ → Answer
+spineFace xs ys p0 p1 p2 p3 room = first (spineDone (spineAnswer xs ys p0 p1 p2 p3)) (roomFor 4 room)
+
+-- what `find_spine` writes
+abbrev pub spineWritten : List Float → List Float → ℕ → ℕ → ℕ → ℕ → List ℕ
+spineWritten xs ys p0 p1 p2 p3 = spinePlaces (spineAnswer xs ys p0 p1 p2 p3)
+
+-- the star of two numbers and a place
+abbrev pub star : Float → Float → ℕ → Star
+star x y at = record { x = x; y = y; at = at }
+
+-- whether a spine was oriented
+abbrev pub turnedDone : Oriented → Answer
+turnedDone (turned.Pair a b) = answer.Done
+turnedDone (turned.Refused why) = answer.Refused why
+
+-- the two places of a spine in order; a refusal has none
+abbrev pub turnedPlaces : Oriented → List ℕ
+turnedPlaces (turned.Pair a b) = a ∷ b ∷ []
+turnedPlaces (turned.Refused why) = []
+
+-- the answer of `orient_spine`: its refusal, then number 7 below 2 places
+abbrev pub orientFace : Star → Star → ℕ → Answer
+orientFace p q room = first (turnedDone (orientAnswer p q)) (roomFor 2 room)
+
+-- what `orient_spine` writes
+abbrev pub orientWritten : Star → Star → List ℕ
+orientWritten p q = turnedPlaces (orientAnswer p q)
+
+-- number 7 where either list has fewer than 4 places
+abbrev pub quadRoom : ℕ → ℕ → Answer
+quadRoom room-h room-p = first (roomFor 4 room-h) (roomFor 4 room-p)
+
+-- a refusal whose number is below 7 comes before that of the room, and any other after it
+abbrev pub inTurn : Refusal → Answer → Answer
+inTurn why room = cond (ltb (numberOf why) 7) (answer.Refused why) (first room (answer.Refused why))
+
+-- what a quad comes to in lists that may lack room
+abbrev pub normalDone : Normal → Answer → Answer
+normalDone (normal.Hashed q) room = room
+normalDone (normal.Refused why) room = inTurn why room
+
+-- the four hash numbers of a quad
+abbrev pub hashNumbers : Quad → List Float
+hashNumbers q = q .h0 ∷ q .h1 ∷ q .h2 ∷ q .h3 ∷ []
+
+-- the four places of a quad
+abbrev pub quadBytes : Quad → List ℕ
+quadBytes q = q .a ∷ q .b ∷ q .c ∷ q .d ∷ []
+
+-- the hash numbers of an answer; a refusal has none
+abbrev pub normalHash : Normal → List Float
+normalHash (normal.Hashed q) = hashNumbers q
+normalHash (normal.Refused why) = []
+
+-- the places of an answer; a refusal has none
+abbrev pub normalPlaces : Normal → List ℕ
+normalPlaces (normal.Hashed q) = quadBytes q
+normalPlaces (normal.Refused why) = []
+
+-- the answer of `normalize_quad_ordered`: numbers 1 to 4, then 7 below 4 places of either list, then 8
+abbrev pub normalFace : List Float → List Float → ℕ → ℕ → ℕ → ℕ → ℕ → ℕ → Answer
+normalFace xs ys a b c d room-h room-p = normalDone (normalAnswer xs ys a b c d) (quadRoom room-h room-p)
+
+-- what it writes into the list of hash numbers
+abbrev pub hashWritten : List Float → List Float → ℕ → ℕ → ℕ → ℕ → List Float
+hashWritten xs ys a b c d = normalHash (normalAnswer xs ys a b c d)
+
+-- what it writes into the list of places
+abbrev pub placesWritten : List Float → List Float → ℕ → ℕ → ℕ → ℕ → List ℕ
+placesWritten xs ys a b c d = normalPlaces (normalAnswer xs ys a b c d)
+
+-- the five bytes of a state: its four places, and 1 where none is left
+abbrev pub stateBytes : State → List ℕ
+stateBytes s = s .set .a ∷ s .set .b ∷ s .set .c ∷ s .set .d ∷ cond (s .done) 1 0 ∷ []
+
+-- whether the steps begin
+abbrev pub startDone : Start → Answer
+startDone (start.Begun s) = answer.Done
+startDone (start.Refused why) = answer.Refused why
+
+-- the bytes of the first state; a refusal has none
+abbrev pub startBytes : Start → List ℕ
+startBytes (start.Begun s) = stateBytes s
+startBytes (start.Refused why) = []
+
+-- the answer of `combinations_4`: its refusal, then number 7 below 5 places
+abbrev pub startFace : ℕ → ℕ → Answer
+startFace n room = first (startDone (startOf n)) (roomFor 5 room)
+
+-- what `combinations_4` writes
+abbrev pub startWritten : ℕ → List ℕ
+startWritten n = startBytes (startOf n)
+
+-- the state that five bytes hold
+abbrev pub stateIn : ℕ → List ℕ → State
+stateIn n bytes =
+    record { n = n; set = four (getD bytes 0 0) (getD bytes 1 0) (getD bytes 2 0) (getD bytes 3 0); done = eqb (getD bytes 4 0) 1 }
+
+-- the tests of a state's bytes: number 1 above 100, 2 where they are not five, 3 where the last is neither 0 nor 1
+abbrev pub stateAnswer : ℕ → List ℕ → Answer
+stateAnswer n bytes =
+    cond (ltb 100 n) (answer.Refused refusal.Count)
+    (cond (not (eqb (length bytes) 5)) (answer.Refused refusal.Lengths)
+    (cond (not (isMaskByte (getD bytes 4 0))) (answer.Refused refusal.Value) answer.Done))
+
+-- what a step comes to: number 7 where a set is given and has no room, and no room is needed where none is left
+abbrev pub stepDone : Step → ℕ → Answer
+stepDone (step.Given s t) room = roomFor 4 room
+stepDone (step.Ended t) room = answer.Done
+stepDone (step.Refused why) room = answer.Refused why
+
+-- the four places of the set that is given; none where none is left
+abbrev pub stepPlaces : Step → List ℕ
+stepPlaces (step.Given s t) = s .a ∷ s .b ∷ s .c ∷ s .d ∷ []
+stepPlaces (step.Ended t) = []
+stepPlaces (step.Refused why) = []
+
+-- the bytes of the state after a set; where none is left the state stays as it is
+abbrev pub stepBytes : Step → List ℕ
+stepBytes (step.Given s t) = stateBytes t
+stepBytes (step.Ended t) = []
+stepBytes (step.Refused why) = []
+
+-- 1 where a set is given, 0 where none is left
+abbrev pub stepGiven : Step → ℕ
+stepGiven (step.Given s t) = 1
+stepGiven (step.Ended t) = 0
+stepGiven (step.Refused why) = 0
+
+-- the step from the state that five bytes hold
+abbrev pub stepFrom : ℕ → List ℕ → Step
+stepFrom n bytes = stepOf (stateIn n bytes)
+
+-- the answer of `combinations_4_next`: numbers 1, 2 and 3, then the step's 4, then 7 where a set is given and has fewer than 4 places
+abbrev pub nextFace : ℕ → List ℕ → ℕ → Answer
+nextFace n bytes room = first (stateAnswer n bytes) (stepDone (stepFrom n bytes) room)
+
+-- whether quads were found
+abbrev pub quadsDone : Quads → Answer
+quadsDone (quads.Found n) = answer.Done
+quadsDone (quads.Refused why) = answer.Refused why
+
+-- how many were found; a refusal has none
+abbrev pub quadsCount : Quads → ℕ
+quadsCount (quads.Found n) = n
+quadsCount (quads.Refused why) = 0
+
+-- the answer of `neighbor_quads`
+abbrev pub quadsFace : List Float → List Float → ℕ → Float → ℕ → ℕ → Answer
+quadsFace xs ys k least room-p room-h = quadsDone (quadsAnswer xs ys k least room-p room-h)
+
+-- the hash of four numbers
+abbrev pub hashFrom : Float → Float → Float → Float → Hash
+hashFrom h0 h1 h2 h3 = record { h0 = h0; h1 = h1; h2 = h2; h3 = h3 }

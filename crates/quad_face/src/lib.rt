@@ -1,0 +1,335 @@
+// The quad calls for C: each answers its number, and writes its result into lent lists.
+use domain::Answer;
+use domain::Refusal;
+use quad::Quads;
+use quad_combinations::Set;
+use quad_combinations::Start;
+use quad_combinations::State;
+use quad_combinations::Step;
+use quad_key::Hash;
+use quad_spine::Normal;
+use quad_spine::Oriented;
+use quad_spine::Quad;
+use quad_spine::Spine;
+use quad_spine::Star;
+ghost use mathlib.Core.Path.{_≡_};
+ghost use mathlib.Core.Bool.{cond};
+ghost use mathlib.Core.List.{[], _∷_};
+ghost use Prim.Native.Nat.{_≤_};
+ghost use lib.ListN.{length};
+ghost use Rattle.domain.specs.Answers.{answerNumber, written, lentAfter};
+ghost use Rattle.quad_key.specs.Key.{keyOf, neighbourKeys, keysAnswer};
+ghost use Rattle.quad.specs.Quads.{quadsAnswer, quadPlaces, quadHashes};
+ghost use Rattle.quad_face.specs.Face.{roomFor, numberAfter, spineFace, spineWritten, star, orientFace, orientWritten, quadRoom, inTurn, hashNumbers, quadBytes, normalFace, hashWritten, placesWritten, stateBytes, startFace, startWritten, stateIn, stateAnswer, stepDone, stepPlaces, stepBytes, stepGiven, stepFrom, nextFace, quadsCount, quadsFace, hashFrom};
+
+// Writes two bytes into the front of a list that has the room.
+fn put_two(out: &mut [u8], a: u8, b: u8) -> Answer
+    ensures answer { λ r. ⌜ r ≡ roomFor 2 (length (now (out .entry))) ⌝ }
+    ensures after { λ r. ⌜ now (out .exit) ≡ lentAfter (roomFor 2 (length (now (out .entry)))) (a ∷ b ∷ []) (now (out .entry)) ⌝ }
+{
+    if out.len() < 2 {
+        return Answer::Refused(Refusal::Room);
+    }
+    out[0] = a;
+    out[1] = b;
+    Answer::Done
+}
+
+// Writes four bytes into the front of a list that has the room.
+fn put_four(out: &mut [u8], a: u8, b: u8, c: u8, d: u8) -> Answer
+    ensures answer { λ r. ⌜ r ≡ roomFor 4 (length (now (out .entry))) ⌝ }
+    ensures after { λ r. ⌜ now (out .exit) ≡ lentAfter (roomFor 4 (length (now (out .entry)))) (a ∷ b ∷ c ∷ d ∷ []) (now (out .entry)) ⌝ }
+{
+    if out.len() < 4 {
+        return Answer::Refused(Refusal::Room);
+    }
+    out[0] = a;
+    out[1] = b;
+    out[2] = c;
+    out[3] = d;
+    Answer::Done
+}
+
+// Writes the four hash numbers of a quad into the front of a list.
+fn put_hash(out: &mut [f64], q: Quad)
+    requires { ⌜ 4 ≤ length (now out) ⌝ }
+    ensures { λ r. ⌜ now (out .exit) ≡ written (hashNumbers q) (now (out .entry)) ⌝ }
+{
+    out[0] = q.h0;
+    out[1] = q.h1;
+    out[2] = q.h2;
+    out[3] = q.h3;
+}
+
+// Writes a quad into the front of two lists that have the room.
+fn put_quad(hash: &mut [f64], places: &mut [u8], q: Quad) -> Answer
+    ensures answer { λ r. ⌜ r ≡ quadRoom (length (now (hash .entry))) (length (now (places .entry))) ⌝ }
+    ensures hash { λ r. ⌜ now (hash .exit) ≡ lentAfter
+        (quadRoom (length (now (hash .entry))) (length (now (places .entry))))
+        (hashNumbers q)
+        (now (hash .entry)) ⌝ }
+    ensures places { λ r. ⌜ now (places .exit) ≡ lentAfter
+        (quadRoom (length (now (hash .entry))) (length (now (places .entry))))
+        (quadBytes q)
+        (now (places .entry)) ⌝ }
+{
+    if hash.len() < 4 {
+        return Answer::Refused(Refusal::Room);
+    }
+    match put_four(places, q.a, q.b, q.c, q.d) {
+        Answer::Refused(why) => Answer::Refused(why),
+        Answer::Done => {
+            put_hash(hash, q);
+            Answer::Done
+        }
+    }
+}
+
+// A refusal beside lists that may lack room: the lower number comes first.
+fn in_turn(why: Refusal, hash: usize, places: usize) -> Answer
+    ensures { λ r. ⌜ r ≡ inTurn why (quadRoom hash places) ⌝ }
+{
+    if why.number() < 7 {
+        return Answer::Refused(why);
+    }
+    if hash < 4 {
+        return Answer::Refused(Refusal::Room);
+    }
+    if places < 4 {
+        return Answer::Refused(Refusal::Room);
+    }
+    Answer::Refused(why)
+}
+
+// 1 for true, 0 for false.
+fn byte_of(b: bool) -> u8
+    ensures { λ r. ⌜ r ≡ cond b 1 0 ⌝ }
+{
+    if b { 1 } else { 0 }
+}
+
+// Writes the five bytes of a state into the front of a list that has the room.
+fn put_state(out: &mut [u8], s: State) -> Answer
+    ensures answer { λ r. ⌜ r ≡ roomFor 5 (length (now (out .entry))) ⌝ }
+    ensures after { λ r. ⌜ now (out .exit) ≡ lentAfter (roomFor 5 (length (now (out .entry)))) (stateBytes s) (now (out .entry)) ⌝ }
+{
+    if out.len() < 5 {
+        return Answer::Refused(Refusal::Room);
+    }
+    let set = s.set;
+    let done = byte_of(s.done);
+    out[0] = set.a;
+    out[1] = set.b;
+    out[2] = set.c;
+    out[3] = set.d;
+    out[4] = done;
+    Answer::Done
+}
+
+// Whether the bytes are of a state.
+fn check_state(n: u32, bytes: &[u8]) -> Answer
+    ensures { λ r. ⌜ r ≡ stateAnswer n (now (bytes .entry)) ⌝ }
+{
+    if n > 100 {
+        return Answer::Refused(Refusal::Count);
+    }
+    if bytes.len() != 5 {
+        return Answer::Refused(Refusal::Lengths);
+    }
+    if !domain::is_mask_byte(bytes[4]) {
+        return Answer::Refused(Refusal::Value);
+    }
+    Answer::Done
+}
+
+// The state that the bytes hold.
+fn state_in(n: u32, bytes: &[u8]) -> State
+    requires { ⌜ 5 ≤ length (now bytes) ⌝ }
+    ensures { λ r. ⌜ r ≡ stateIn n (now (bytes .entry)) ⌝ }
+{
+    let set = Set {
+        a: bytes[0],
+        b: bytes[1],
+        c: bytes[2],
+        d: bytes[3],
+    };
+    let done = bytes[4] == 1;
+    State { n, set, done }
+}
+
+// Writes what a step gives: the set into the places, and then the state after it.
+fn put_step(step: Step, state: &mut [u8], places: &mut [u8], given: &mut u8) -> Answer
+    requires { ⌜ 5 ≤ length (now state) ⌝ }
+    ensures answer { λ r. ⌜ r ≡ stepDone step (length (now (places .entry))) ⌝ }
+    ensures state { λ r. ⌜ now (state .exit) ≡ lentAfter (stepDone step (length (now (places .entry)))) (stepBytes step) (now (state .entry)) ⌝ }
+    ensures places { λ r. ⌜ now (places .exit) ≡ lentAfter (stepDone step (length (now (places .entry)))) (stepPlaces step) (now (places .entry)) ⌝ }
+    ensures given { λ r. ⌜ now (given .exit) ≡ numberAfter (stepDone step (length (now (places .entry)))) (stepGiven step) (now (given .entry)) ⌝ }
+{
+    match step {
+        Step::Given(set, after) => match put_four(places, set.a, set.b, set.c, set.d) {
+            Answer::Refused(why) => Answer::Refused(why),
+            Answer::Done => {
+                put_state(state, after);
+                *given = 1;
+                Answer::Done
+            }
+        },
+        Step::Ended(_) => {
+            *given = 0;
+            Answer::Done
+        }
+        Step::Refused(why) => Answer::Refused(why),
+    }
+}
+
+// The spine of the stars at four places, then the other two.
+pub fn find_spine(xs: &[f64], ys: &[f64], p0: u8, p1: u8, p2: u8, p3: u8, spine: &mut [u8]) -> u32
+    ensures number { λ r. ⌜ r ≡ answerNumber (spineFace (now (xs .entry)) (now (ys .entry)) p0 p1 p2 p3 (length (now (spine .entry)))) ⌝ }
+    ensures spine { λ r. ⌜ now (spine .exit) ≡ lentAfter
+        (spineFace (now (xs .entry)) (now (ys .entry)) p0 p1 p2 p3 (length (now (spine .entry))))
+        (spineWritten (now (xs .entry)) (now (ys .entry)) p0 p1 p2 p3)
+        (now (spine .entry)) ⌝ }
+{
+    match quad_spine::find_spine(xs, ys, p0, p1, p2, p3) {
+        Spine::Refused(why) => why.number(),
+        Spine::Found(p) => put_four(spine, p.a, p.b, p.c, p.d).number(),
+    }
+}
+
+// The places of a spine's two stars, in order.
+pub fn orient_spine(ax: f64, ay: f64, a: u8, bx: f64, by: f64, b: u8, pair: &mut [u8]) -> u32
+    ensures number { λ r. ⌜ r ≡ answerNumber (orientFace (star ax ay a) (star bx by b) (length (now (pair .entry)))) ⌝ }
+    ensures pair { λ r. ⌜ now (pair .exit) ≡ lentAfter
+        (orientFace (star ax ay a) (star bx by b) (length (now (pair .entry))))
+        (orientWritten (star ax ay a) (star bx by b))
+        (now (pair .entry)) ⌝ }
+{
+    let p = Star {
+        x: ax,
+        y: ay,
+        at: a,
+    };
+    let q = Star {
+        x: bx,
+        y: by,
+        at: b,
+    };
+    match quad_spine::orient_spine(p, q) {
+        Oriented::Refused(why) => why.number(),
+        Oriented::Pair(first, second) => put_two(pair, first, second).number(),
+    }
+}
+
+// The hash of the quad at four places, the spine first, and its places with C and D in order.
+pub fn normalize_quad_ordered(
+    xs: &[f64],
+    ys: &[f64],
+    a: u8,
+    b: u8,
+    c: u8,
+    d: u8,
+    hash: &mut [f64],
+    places: &mut [u8],
+) -> u32
+    ensures number { λ r. ⌜ r ≡ answerNumber (normalFace (now (xs .entry)) (now (ys .entry)) a b c d (length (now (hash .entry))) (length (now (places .entry)))) ⌝ }
+    ensures hash { λ r. ⌜ now (hash .exit) ≡ lentAfter
+        (normalFace (now (xs .entry)) (now (ys .entry)) a b c d (length (now (hash .entry))) (length (now (places .entry))))
+        (hashWritten (now (xs .entry)) (now (ys .entry)) a b c d)
+        (now (hash .entry)) ⌝ }
+    ensures places { λ r. ⌜ now (places .exit) ≡ lentAfter
+        (normalFace (now (xs .entry)) (now (ys .entry)) a b c d (length (now (hash .entry))) (length (now (places .entry))))
+        (placesWritten (now (xs .entry)) (now (ys .entry)) a b c d)
+        (now (places .entry)) ⌝ }
+{
+    match quad_spine::normalize_quad_ordered(xs, ys, a, b, c, d) {
+        Normal::Refused(why) => in_turn(why, hash.len(), places.len()).number(),
+        Normal::Hashed(q) => put_quad(hash, places, q).number(),
+    }
+}
+
+// The state from which the steps give every set of four places below n.
+pub fn combinations_4(n: u32, state: &mut [u8]) -> u32
+    ensures number { λ r. ⌜ r ≡ answerNumber (startFace n (length (now (state .entry)))) ⌝ }
+    ensures state { λ r. ⌜ now (state .exit) ≡ lentAfter (startFace n (length (now (state .entry)))) (startWritten n) (now (state .entry)) ⌝ }
+{
+    match quad_combinations::combinations_4(n) {
+        Start::Refused(why) => why.number(),
+        Start::Begun(s) => put_state(state, s).number(),
+    }
+}
+
+// The set that stands in the state, and the state after it; given is 1, or 0 where none is left.
+pub fn combinations_4_next(n: u32, state: &mut [u8], places: &mut [u8], given: &mut u8) -> u32
+    ensures number { λ r. ⌜ r ≡ answerNumber (nextFace n (now (state .entry)) (length (now (places .entry)))) ⌝ }
+    ensures state { λ r. ⌜ now (state .exit) ≡ lentAfter
+        (nextFace n (now (state .entry)) (length (now (places .entry))))
+        (stepBytes (stepFrom n (now (state .entry))))
+        (now (state .entry)) ⌝ }
+    ensures places { λ r. ⌜ now (places .exit) ≡ lentAfter
+        (nextFace n (now (state .entry)) (length (now (places .entry))))
+        (stepPlaces (stepFrom n (now (state .entry))))
+        (now (places .entry)) ⌝ }
+    ensures given { λ r. ⌜ now (given .exit) ≡ numberAfter
+        (nextFace n (now (state .entry)) (length (now (places .entry))))
+        (stepGiven (stepFrom n (now (state .entry))))
+        (now (given .entry)) ⌝ }
+{
+    match check_state(n, state) {
+        Answer::Refused(why) => why.number(),
+        Answer::Done => {
+            let step = state_in(n, state).next();
+            put_step(step, state, places, given).number()
+        }
+    }
+}
+
+// The quads of the stars, four places and four hash numbers each, and how many they are.
+pub fn neighbor_quads(
+    xs: &[f64],
+    ys: &[f64],
+    k: u32,
+    least: f64,
+    places: &mut [u8],
+    hashes: &mut [f64],
+    quads: &mut u64,
+) -> u32
+    ensures number { λ r. ⌜ r ≡ answerNumber (quadsFace (now (xs .entry)) (now (ys .entry)) k least (length (now (places .entry))) (length (now (hashes .entry)))) ⌝ }
+    ensures places { λ r. ⌜ now (places .exit) ≡ lentAfter
+        (quadsFace (now (xs .entry)) (now (ys .entry)) k least (length (now (places .entry))) (length (now (hashes .entry))))
+        (quadPlaces (now (xs .entry)) (now (ys .entry)) k least)
+        (now (places .entry)) ⌝ }
+    ensures hashes { λ r. ⌜ now (hashes .exit) ≡ lentAfter
+        (quadsFace (now (xs .entry)) (now (ys .entry)) k least (length (now (places .entry))) (length (now (hashes .entry))))
+        (quadHashes (now (xs .entry)) (now (ys .entry)) k least)
+        (now (hashes .entry)) ⌝ }
+    ensures quads { λ r. ⌜ now (quads .exit) ≡ numberAfter
+        (quadsFace (now (xs .entry)) (now (ys .entry)) k least (length (now (places .entry))) (length (now (hashes .entry))))
+        (quadsCount (quadsAnswer (now (xs .entry)) (now (ys .entry)) k least (length (now (places .entry))) (length (now (hashes .entry)))))
+        (now (quads .entry)) ⌝ }
+{
+    match quad::neighbor_quads(xs, ys, k as usize, least, places, hashes) {
+        Quads::Refused(why) => why.number(),
+        Quads::Found(count) => {
+            *quads = count as u64;
+            0
+        }
+    }
+}
+
+// The key of a hash.
+pub fn discrete_hash_key(h0: f64, h1: f64, h2: f64, h3: f64) -> u64
+    ensures { λ r. ⌜ r ≡ keyOf (hashFrom h0 h1 h2 h3) ⌝ }
+{
+    quad_key::discrete_hash_key(Hash { h0, h1, h2, h3 })
+}
+
+// The 81 neighbour keys of a hash.
+pub fn discrete_hash_key_neighbors(h0: f64, h1: f64, h2: f64, h3: f64, keys: &mut [u64]) -> u32
+    ensures number { λ r. ⌜ r ≡ answerNumber (keysAnswer (length (now (keys .entry)))) ⌝ }
+    ensures keys { λ r. ⌜ now (keys .exit) ≡ lentAfter
+        (keysAnswer (length (now (keys .entry))))
+        (neighbourKeys (hashFrom h0 h1 h2 h3))
+        (now (keys .entry)) ⌝ }
+{
+    quad_key::discrete_hash_key_neighbors(Hash { h0, h1, h2, h3 }, keys).number()
+}
