@@ -1,7 +1,7 @@
 -- Laws of the lines that are printed: how long they are at most, and one quad after another.
-use mathlib.Core.Path.{_≡_, refl, sym, _∙_, ap}
+use mathlib.Core.Path.{_≡_, refl}
 use mathlib.Core.Bool.{Bool, true, false}
-use mathlib.Core.List.{List, [], _∷_, _++_}
+use mathlib.Core.List.{List, [], _++_}
 use Prim.Native.Nat.{ℕ, zero, suc, _+_, _-_, _*_, _/_, _≤_, _<_}
 use native.Mathlib.Nat.{add-zero}
 use native.Mathlib.Omega.{arith}
@@ -10,7 +10,7 @@ use lib.Dec.{ltb}
 use lib.ListN.{length, getD, drop, length-append, length-drop, List·getD-append}
 use lib.Seq.{getD-drop, drop-drop, drop-append-le}
 use lib.Ieee.{Float, nan}
-use Rattle.text.specs.Put.{Put, Room, hexFrom, decimalOf, decimalLine}
+use Rattle.text.specs.Put.{hexFrom, decimalOf, decimalLine}
 use Rattle.text.proofs.Writing.{length-hex, length-decimal-one, length-decimal-more, length-decimal-most, length-decimal-line}
 use Rattle.quad_key.specs.Key.{keyOf}
 use Rattle.quad_program.specs.Form.{comma, newline}

@@ -2,14 +2,14 @@
 use mathlib.Core.Path.{_≡_, refl, sym, _∙_, ap}
 use mathlib.Core.Bool.{Bool, true, false, cond, _||_}
 use mathlib.Core.List.{List, [], _∷_, _++_}
-use Prim.Native.Nat.{ℕ, _+_, _*_, _/_, _≤_}
+use Prim.Native.Nat.{ℕ, _*_, _/_, _≤_}
 use native.Mathlib.Omega.{arith}
 use borrow.Author.Tests.{ltb-false}
 use lib.Dec.{ltb}
 use lib.ListN.{length, take, drop, length-append}
 use lib.Seq.{take-at, drop-at}
 use lib.Ieee.{Float}
-use Rattle.text.specs.Put.{Put, decimalLine}
+use Rattle.text.specs.Put.{Put}
 use Rattle.text.proofs.Writing.{put-front, put-length}
 use Rattle.domain.specs.Answers.{numberOf}
 use Rattle.domain.specs.declared.Refusal.{Refusal}
@@ -21,10 +21,10 @@ use Rattle.quad.specs.declared.Quads.the-variants as quads
 use Rattle.quad.specs.Quads.{quadOf, placesIn, hashIn, allPlaces, allHashes, quadPlaces, quadHashes, inputAnswer, roomAnswer, answerAfter, quadsAnswer, lentAfterQuads}
 use Rattle.quad.proofs.Laws.{as-long}
 use Rattle.quad_program.specs.declared.Parsed.{Parsed}
-use Rattle.quad_program.specs.declared.Parsed.the-variants as parsed
-use Rattle.quad_program.specs.Form.{formOf, formIn}
-use Rattle.quad_program.specs.Print.{quadsName, allLines, statusLine, foundText, printed}
-use Rattle.quad_program.specs.Program.{quadsText, textFor, programText}
+use Rattle.quad_program.specs.declared.Parsed.the-variants as outcome
+use Rattle.quad_program.specs.Form.{parsed, formIn}
+use Rattle.quad_program.specs.Print.{allLines, statusLine, foundText, printed}
+use Rattle.quad_program.specs.Program.{quadsText, programText}
 use Rattle.quad_program.proofs.Printing.{lines-front}
 
 -- ---- quads that were found
@@ -85,12 +85,12 @@ refused-text xs ys k least r why n f e h = rw (h, ← e, f)
 -- ---- what a text says
 
 -- the text for one that is not in form
-pub wrong-text : (s : List ℕ) (r : Parsed) (xs ys : List Float) (n : ℕ) → r ≡ parsed.Wrong → formIn r xs ys ≡ formOf s → n ≡ numberOf refusal.Form → statusLine n ≡ programText s
+pub wrong-text : (s : List ℕ) (r : Parsed) (xs ys : List Float) (n : ℕ) → r ≡ outcome.Wrong → formIn r xs ys ≡ parsed s → n ≡ numberOf refusal.Form → statusLine n ≡ programText s
 unfolding programText
 wrong-text s r xs ys n e f h = rw (← f, e, h)
 
 -- the text for one that is
-pub says-text : (s : List ℕ) (r : Parsed) (xs ys : List Float) (k : ℕ) (least : Float) (n : ℕ) → r ≡ parsed.Input k least n → formIn r xs ys ≡ formOf s
+pub says-text : (s : List ℕ) (r : Parsed) (xs ys : List Float) (k : ℕ) (least : Float) (n : ℕ) → r ≡ outcome.Input k least n → formIn r xs ys ≡ parsed s
     → quadsText (take n xs) (take n ys) k least ≡ programText s
 unfolding programText
 says-text s r xs ys k least n e f = rw (← f, e)

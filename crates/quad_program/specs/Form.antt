@@ -15,7 +15,7 @@ use Rattle.quad_program.specs.declared.Star.the-variants as star
 use Rattle.quad_program.specs.declared.Stars.{Stars}
 use Rattle.quad_program.specs.declared.Stars.the-variants as stars
 use Rattle.quad_program.specs.declared.Parsed.{Parsed}
-use Rattle.quad_program.specs.declared.Parsed.the-variants as parsed
+use Rattle.quad_program.specs.declared.Parsed.the-variants as outcome
 
 -- the name of the first line, "k="
 abbrev pub kName : List ℕ
@@ -101,7 +101,7 @@ starsFrom zero s p = cond (ltb p (length s)) Sky.Wrong (Sky.Shows [] [])
 starsFrom (suc room) s p =
     cond (ltb p (length s)) (starThen (starOf s p) (starsFrom room s)) (Sky.Shows [] [])
 
--- what a text says: k, the least squared spine, and the x and the y of each star; or that it is not in form
+-- what a text says: k, held at 2 ^ 32, the least squared spine, and the x and the y of each star; or that it is not in form
 pub data Form : Type 0 where
   Says : ℕ → Float → List Float → List Float → Form
   Wrong : Form
@@ -122,8 +122,8 @@ afterK s (number.Is k p) = afterLeast s k (hexField leastName newline s p)
 afterK s (number.Wrong p) = Form.Wrong
 
 -- what a text of at most 1,024 bytes says; a longer one is not in form
-unfoldable pub formOf : List ℕ → Form
-formOf s = cond (ltb 1024 (length s)) Form.Wrong (afterK s (decimalField kName newline s 0))
+unfoldable pub parsed : List ℕ → Form
+parsed s = cond (ltb 1024 (length s)) Form.Wrong (afterK s (decimalField kName newline s 0))
 
 -- what the answer of `read_stars` says, with the two lists that it filled
 abbrev pub skyIn : Stars → List Float → List Float → Sky
@@ -137,10 +137,10 @@ starCount stars.Wrong = 0
 
 -- what the answer of `parse` says, with the two lists that it filled
 abbrev pub formIn : Parsed → List Float → List Float → Form
-formIn (parsed.Input k least n) xs ys = Form.Says k least (take n xs) (take n ys)
-formIn parsed.Wrong xs ys = Form.Wrong
+formIn (outcome.Input k least n) xs ys = Form.Says k least (take n xs) (take n ys)
+formIn outcome.Wrong xs ys = Form.Wrong
 
 -- how many stars it counted
 abbrev pub parsedStars : Parsed → ℕ
-parsedStars (parsed.Input k least n) = n
-parsedStars parsed.Wrong = 0
+parsedStars (outcome.Input k least n) = n
+parsedStars outcome.Wrong = 0

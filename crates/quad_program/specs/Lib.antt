@@ -1,3 +1,4 @@
 pub mod Form
 pub mod Print
 pub mod Program
+pub mod Examples

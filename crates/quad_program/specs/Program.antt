@@ -5,10 +5,10 @@ use lib.Ieee.{Float}
 use Rattle.domain.specs.declared.Refusal.the-variants as refusal
 use Rattle.domain.specs.Answers.{numberOf}
 use Rattle.quad.specs.Quads.{quadsAnswer, quadPlaces, quadHashes}
-use Rattle.quad_program.specs.Form.{Form, formOf}
+use Rattle.quad_program.specs.Form.{Form, parsed}
 use Rattle.quad_program.specs.Print.{statusLine, printed}
 
--- the room for places and for hash numbers, four for each of 1,001 quads: all sets of four of 14 stars
+-- the room for places and for hash numbers, four for each of 1,001 quads, the sets of four of 14 stars; more would be number 7
 abbrev pub room : ℕ
 room = 4004
 
@@ -23,4 +23,4 @@ textFor Form.Wrong = statusLine (numberOf refusal.Form)
 
 -- what is printed for a text
 unfoldable pub programText : List ℕ → List ℕ
-programText s = textFor (formOf s)
+programText s = textFor (parsed s)

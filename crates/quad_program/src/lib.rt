@@ -9,7 +9,7 @@ ghost use Prim.Native.Nat.{_+_, _*_, _≤_};
 ghost use lib.ListN.{length, take, drop};
 ghost use Rattle.text.specs.Put.{Put, Room};
 ghost use Rattle.scan.specs.Read.{readBytes};
-ghost use Rattle.quad_program.specs.Form.{endedAt, hexField, decimalField, starOf, starsFrom, skyIn, starCount, formOf, formIn, parsedStars};
+ghost use Rattle.quad_program.specs.Form.{endedAt, hexField, decimalField, starOf, starsFrom, skyIn, starCount, parsed, formIn, parsedStars};
 ghost use Rattle.quad_program.specs.Print.{numbered, placesLine, keyLine, quadLines, allLines, statusLine, foundText};
 ghost use Rattle.quad_program.specs.Program.{quadsText, programText};
 
@@ -111,7 +111,7 @@ fn read_stars(s: &[u8], at: usize, xs: &mut [f64], ys: &mut [f64]) -> Stars
 // Reads a whole text, its stars into two lists.
 fn parse(s: &[u8], xs: &mut [f64], ys: &mut [f64]) -> Parsed
     requires { ⌜ (length (now xs) ≡ 14) × (length (now ys) ≡ 14) ⌝ }
-    ensures { λ r. ⌜ (formIn r (now (xs .exit)) (now (ys .exit)) ≡ formOf (now (s .entry))) × (parsedStars r ≤ 14) ⌝ }
+    ensures { λ r. ⌜ (formIn r (now (xs .exit)) (now (ys .exit)) ≡ parsed (now (s .entry))) × (parsedStars r ≤ 14) ⌝ }
 {
     if MOST_BYTES < s.len() {
         return Parsed::Wrong;

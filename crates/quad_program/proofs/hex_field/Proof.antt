@@ -1,53 +1,38 @@
+-- `quad_program::hex_field` meets its contract: each way out is that of the definition, which reads the same in the same order.
 use Rattle.quad_program.specs.Form.{hexField}
-use mathlib.Core.Path.{_≡_}
 use borrow.Author.Needs.{needs}
 use Rattle.quad_program.proofs.hex_field.Statement.{statement}
 use Rattle.quad_program.proofs.hex_field.Tie as tie
-use Rattle.quad_program.proofs.hex_field.Reads as reads
-use Rattle.quad_program.proofs.hex_field.Lts as lts
-use Rattle.quad_program.proofs.ended.Reads as ended-reads
-use Rattle.scan.proofs.read_bytes.Reads as read-bytes-reads
-use Rattle.scan.proofs.read_hex.Reads as read-hex-reads
 
--- src/lib.rt:68:11
 read-bytes-requires : tie.Need-read-bytes-requires
 read-bytes-requires c κs = search needs
 
--- src/lib.rt:69:20
 enum-known-p : tie.Need-enum-known-p
 enum-known-p c = search needs
 
--- src/lib.rt:70:21
 enum-known-p-2 : tie.Need-enum-known-p-2
 enum-known-p-2 c = search needs
 
--- src/lib.rt:70:33
 read-hex-requires : tie.Need-read-hex-requires
 read-hex-requires c κs = search needs
 
--- src/lib.rt:71:27
 enum-known-q : tie.Need-enum-known-q
 enum-known-q c = search needs
 
--- src/lib.rt:72:24
 enum-known-n : tie.Need-enum-known-n
 enum-known-n c = search needs
 
--- src/lib.rt:72:33
 ended-requires : tie.Need-ended-requires
 ended-requires c κs = search needs
 
--- src/lib.rt:65:1
 returns : tie.Need-returns
 unfolding hexField
 returns c = rw (← c .before .before .before .read-bytes .ensures, c .before .p .given .1)
 
--- src/lib.rt:65:1
 returns-2 : tie.Need-returns-2
 unfolding hexField
 returns-2 c = rw (← c .before .before .before .before .before .before .before .read-bytes .ensures, c .before .before .before .before .before .p2 .given .1, ← c .before .before .before .read-hex .ensures, c .before .q .given .1)
 
--- src/lib.rt:65:1
 returns-3 : tie.Need-returns-3
 unfolding hexField
 returns-3 c = rw (← c .before .before .before .before .before .before .before .before .read-bytes .ensures, c .before .before .before .before .before .before .p2 .given .1, ← c .before .before .before .before .read-hex .ensures, c .before .before .n .given .1) (c .ended .ensures)

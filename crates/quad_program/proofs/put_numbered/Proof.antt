@@ -1,28 +1,21 @@
+-- `quad_program::put_numbered` meets its contract: two texts, one after the other.
 use Rattle.text.proofs.Writing.{then, room-first, room-next}
 use Rattle.quad_program.specs.Print.{numbered}
 use borrow.Author.Needs.{needs}
 use Rattle.quad_program.proofs.put_numbered.Statement.{statement}
 use Rattle.quad_program.proofs.put_numbered.Tie as tie
-use Rattle.quad_program.proofs.put_numbered.Reads as reads
-use Rattle.quad_program.proofs.put_numbered.Lts as lts
-use Rattle.text.proofs.put_bytes.Reads as put-bytes-reads
-use Rattle.text.proofs.put_decimal.Reads as put-decimal-reads
 
--- src/lib.rt:139:9
 put-bytes-requires : tie.Need-put-bytes-requires
 unfolding numbered
 put-bytes-requires c κs = room-first _ (c .before .before .before .pre)
 
--- src/lib.rt:140:5
 put-decimal-requires : tie.Need-put-decimal-requires
 unfolding numbered
 put-decimal-requires c κs = room-next (c .before .before .before .before .before .before .before .pre) (c .before .before .before .put-bytes .ensures)
 
--- src/lib.rt:135:1
 same-length : tie.Need-same-length
 same-length c = search needs
 
--- src/lib.rt:135:1
 returns : tie.Need-returns
 unfolding numbered
 returns c = then (c .before .before .before .before .before .before .put-bytes .ensures) (c .before .before .put-decimal .ensures)

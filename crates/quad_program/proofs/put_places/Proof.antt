@@ -1,54 +1,41 @@
+-- `quad_program::put_places` meets its contract: four texts, one after the other.
 use Rattle.text.proofs.Writing.{then, room-first, room-next}
 use Rattle.quad_program.specs.Print.{placesLine}
 use borrow.Author.Needs.{needs}
 use Rattle.quad_program.proofs.put_places.Statement.{statement}
 use Rattle.quad_program.proofs.put_places.Tie as tie
-use Rattle.quad_program.proofs.put_places.Reads as reads
-use Rattle.quad_program.proofs.put_places.Lts as lts
-use Rattle.quad_program.proofs.put_numbered.Reads as put-numbered-reads
-use Rattle.text.proofs.put_decimal_line.Reads as put-decimal-line-reads
 
--- src/lib.rt:148:35
 slice-aggregate-put-numbered : tie.Need-slice-aggregate-put-numbered
 slice-aggregate-put-numbered c = search needs
 
--- src/lib.rt:148:9
 put-numbered-requires : tie.Need-put-numbered-requires
 unfolding placesLine
 put-numbered-requires c κs = room-first _ (c .before .before .before .pre)
 
--- src/lib.rt:149:34
 slice-aggregate-put-numbered-2 : tie.Need-slice-aggregate-put-numbered-2
 slice-aggregate-put-numbered-2 c = search needs
 
--- src/lib.rt:149:9
 put-numbered-requires-2 : tie.Need-put-numbered-requires-2
 unfolding placesLine
 put-numbered-requires-2 c κs = room-first _ (room-next (c .before .before .before .before .before .before .before .before .pre) (c .before .before .before .before .put-numbered .ensures))
 
--- src/lib.rt:150:34
 slice-aggregate-put-numbered-3 : tie.Need-slice-aggregate-put-numbered-3
 slice-aggregate-put-numbered-3 c = search needs
 
--- src/lib.rt:150:9
 put-numbered-requires-3 : tie.Need-put-numbered-requires-3
 unfolding placesLine
 put-numbered-requires-3 c κs = room-first _ (room-next (room-next (c .before .before .before .before .before .before .before .before .before .before .before .before .before .pre) (c .before .before .before .before .before .before .before .before .before .put-numbered .ensures)) (c .before .before .before .before .put-numbered2 .ensures))
 
--- src/lib.rt:151:36
 slice-aggregate-put-decimal-line : tie.Need-slice-aggregate-put-decimal-line
 slice-aggregate-put-decimal-line c = search needs
 
--- src/lib.rt:151:5
 put-decimal-line-requires : tie.Need-put-decimal-line-requires
 unfolding placesLine
 put-decimal-line-requires c κs = room-next (room-next (room-next (c .before .before .before .before .before .before .before .before .before .before .before .before .before .before .before .before .before .before .pre) (c .before .before .before .before .before .before .before .before .before .before .before .before .before .before .put-numbered .ensures)) (c .before .before .before .before .before .before .before .before .before .put-numbered2 .ensures)) (c .before .before .before .before .put-numbered3 .ensures)
 
--- src/lib.rt:144:1
 same-length : tie.Need-same-length
 same-length c = search needs
 
--- src/lib.rt:144:1
 returns : tie.Need-returns
 unfolding placesLine
 returns c = then (c .before .before .before .before .before .before .before .before .before .before .before .before .before .before .before .before .before .put-numbered .ensures) (then (c .before .before .before .before .before .before .before .before .before .before .before .before .put-numbered2 .ensures) (then (c .before .before .before .before .before .before .before .put-numbered3 .ensures) (c .before .before .put-decimal-line .ensures)))

@@ -1,28 +1,21 @@
+-- `quad_program::put_status` meets its contract: a line of at most 28 bytes.
 use Rattle.quad_program.proofs.Printing.{status-short}
 use Rattle.quad_program.specs.Print.{statusLine}
 use native.Mathlib.Omega.{arith}
-use mathlib.Core.Path.{_≡_}
 use borrow.Author.Needs.{needs}
 use Rattle.quad_program.proofs.put_status.Statement.{statement}
 use Rattle.quad_program.proofs.put_status.Tie as tie
-use Rattle.quad_program.proofs.put_status.Reads as reads
-use Rattle.quad_program.proofs.put_status.Lts as lts
-use Rattle.text.proofs.put_decimal_line.Reads as put-decimal-line-reads
 
--- src/lib.rt:205:36
 slice-aggregate-put-decimal-line : tie.Need-slice-aggregate-put-decimal-line
 slice-aggregate-put-decimal-line c = search needs
 
--- src/lib.rt:205:5
 put-decimal-line-requires : tie.Need-put-decimal-line-requires
 unfolding statusLine
 put-decimal-line-requires c κs = record { room = omega (arith, status-short (c .before .before .before .args .n), c .before .before .before .pre) }
 
--- src/lib.rt:201:1
 same-length : tie.Need-same-length
 same-length c = search needs
 
--- src/lib.rt:201:1
 returns : tie.Need-returns
 unfolding statusLine
 returns c = (c .before .before .put-decimal-line .ensures, omega (arith, status-short (c .before .before .before .before .before .before .args .n), c .before .before .put-decimal-line .ensures .next-is))
