@@ -8,7 +8,6 @@ use std::fmt::{self, Display};
 
 /// What a field holds: the digits alone do not tell a float from a number.
 #[derive(Clone, Copy)]
-#[allow(dead_code)] // lists belong to calls that are still to come
 pub enum Kind {
     Float,
     Number,
@@ -36,7 +35,6 @@ pub fn bits(x: f64) -> u64 {
     if x.is_nan() { 0x7ff8_0000_0000_0000 } else { x.to_bits() }
 }
 
-#[allow(dead_code)] // lists belong to calls that are still to come
 impl Fields {
     pub fn new() -> Fields {
         Fields::default()

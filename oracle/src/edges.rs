@@ -67,12 +67,17 @@ pub fn steps(every: usize) -> impl Iterator<Item = f64> {
     })
 }
 
-/// What a lane of a key takes the floor of: 100 times each `every`-th hundredth, the hundredth
-/// rounded to a float first, or one of its neighbours.
-pub fn lanes(every: usize) -> impl Iterator<Item = f64> {
+/// Numbers of a hash: each `every`-th hundredth, rounded to a float, the settled examples and the
+/// ends of what a lane holds; each with its neighbours.
+pub fn hash_numbers(every: usize) -> impl Iterator<Item = f64> {
     let hundredths = (-700..=700).step_by(every).map(|n| f64::from(n) / 100.0);
     let settled = [-0.001, -5.5, 655.0, 1e300, -1e300];
     let held = [21_474_836.47, 21_474_836.48]; // the ends of the i32 range
     let ends = settled.into_iter().chain(held.into_iter().flat_map(|x| [x, -x]));
-    hundredths.chain(ends).flat_map(around).map(|v| v * 100.0)
+    hundredths.chain(ends).flat_map(around)
+}
+
+/// What a lane of a key takes the floor of: 100 times a number of a hash.
+pub fn lanes(every: usize) -> impl Iterator<Item = f64> {
+    hash_numbers(every).map(|v| v * 100.0)
 }

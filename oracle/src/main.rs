@@ -16,6 +16,8 @@ mod compare;
 mod edges;
 mod ours;
 mod random;
+mod stars;
+mod theirs;
 
 const USAGE: &str = "\
 usage: oracle compare [GROUP] [--count N] [--seed S]   both sides on all edges and N random cases

@@ -6,6 +6,74 @@ unsafe extern "C" {
     safe fn moorspindle_floor(x: f64) -> i32;
     safe fn moorspindle_root(x: f64) -> f64;
     safe fn moorspindle_power(u: f64, p: u32) -> f64;
+
+    fn moorspindle_find_spine(
+        xs: *const f64,
+        xs_len: usize,
+        ys: *const f64,
+        ys_len: usize,
+        p0: u8,
+        p1: u8,
+        p2: u8,
+        p3: u8,
+        spine: *mut u8,
+        spine_len: usize,
+    ) -> u32;
+    fn moorspindle_orient_spine(
+        ax: f64,
+        ay: f64,
+        a: u8,
+        bx: f64,
+        by: f64,
+        b: u8,
+        pair: *mut u8,
+        pair_len: usize,
+    ) -> u32;
+    fn moorspindle_normalize_quad_ordered(
+        xs: *const f64,
+        xs_len: usize,
+        ys: *const f64,
+        ys_len: usize,
+        a: u8,
+        b: u8,
+        c: u8,
+        d: u8,
+        hash: *mut f64,
+        hash_len: usize,
+        places: *mut u8,
+        places_len: usize,
+    ) -> u32;
+    fn moorspindle_combinations_4(n: u32, state: *mut u8, state_len: usize) -> u32;
+    fn moorspindle_combinations_4_next(
+        n: u32,
+        state: *mut u8,
+        state_len: usize,
+        places: *mut u8,
+        places_len: usize,
+        given: *mut u8,
+    ) -> u32;
+    fn moorspindle_neighbor_quads(
+        xs: *const f64,
+        xs_len: usize,
+        ys: *const f64,
+        ys_len: usize,
+        k: u32,
+        min_spine_sq: f64,
+        places: *mut u8,
+        places_len: usize,
+        hashes: *mut f64,
+        hashes_len: usize,
+        quads: *mut u64,
+    ) -> u32;
+    safe fn moorspindle_discrete_hash_key(h0: f64, h1: f64, h2: f64, h3: f64) -> u64;
+    fn moorspindle_discrete_hash_key_neighbors(
+        h0: f64,
+        h1: f64,
+        h2: f64,
+        h3: f64,
+        keys: *mut u64,
+        keys_len: usize,
+    ) -> u32;
 }
 
 pub fn magnitude(x: f64) -> f64 {
@@ -22,4 +90,111 @@ pub fn root(x: f64) -> f64 {
 
 pub fn power(u: f64, p: u32) -> f64 {
     moorspindle_power(u, p)
+}
+
+// The quads. Each pointer that follows comes from a Rust reference and goes with its length, and
+// what is lent to be written overlaps nothing else.
+
+pub fn find_spine(xs: &[f64], ys: &[f64], places: [u8; 4], spine: &mut [u8]) -> u32 {
+    let [p0, p1, p2, p3] = places;
+    unsafe {
+        moorspindle_find_spine(
+            xs.as_ptr(),
+            xs.len(),
+            ys.as_ptr(),
+            ys.len(),
+            p0,
+            p1,
+            p2,
+            p3,
+            spine.as_mut_ptr(),
+            spine.len(),
+        )
+    }
+}
+
+/// Each star is its x, its y and its place.
+pub fn orient_spine(a: (f64, f64, u8), b: (f64, f64, u8), pair: &mut [u8]) -> u32 {
+    unsafe { moorspindle_orient_spine(a.0, a.1, a.2, b.0, b.1, b.2, pair.as_mut_ptr(), pair.len()) }
+}
+
+pub fn normalize_quad_ordered(
+    xs: &[f64],
+    ys: &[f64],
+    quad: [u8; 4],
+    hash: &mut [f64],
+    places: &mut [u8],
+) -> u32 {
+    let [a, b, c, d] = quad;
+    unsafe {
+        moorspindle_normalize_quad_ordered(
+            xs.as_ptr(),
+            xs.len(),
+            ys.as_ptr(),
+            ys.len(),
+            a,
+            b,
+            c,
+            d,
+            hash.as_mut_ptr(),
+            hash.len(),
+            places.as_mut_ptr(),
+            places.len(),
+        )
+    }
+}
+
+pub fn combinations_4(n: u32, state: &mut [u8]) -> u32 {
+    unsafe { moorspindle_combinations_4(n, state.as_mut_ptr(), state.len()) }
+}
+
+pub fn combinations_4_next(n: u32, state: &mut [u8], places: &mut [u8], given: &mut u8) -> u32 {
+    unsafe {
+        moorspindle_combinations_4_next(
+            n,
+            state.as_mut_ptr(),
+            state.len(),
+            places.as_mut_ptr(),
+            places.len(),
+            given,
+        )
+    }
+}
+
+pub fn neighbor_quads(
+    xs: &[f64],
+    ys: &[f64],
+    k: u32,
+    min_spine_sq: f64,
+    places: &mut [u8],
+    hashes: &mut [f64],
+    quads: &mut u64,
+) -> u32 {
+    unsafe {
+        moorspindle_neighbor_quads(
+            xs.as_ptr(),
+            xs.len(),
+            ys.as_ptr(),
+            ys.len(),
+            k,
+            min_spine_sq,
+            places.as_mut_ptr(),
+            places.len(),
+            hashes.as_mut_ptr(),
+            hashes.len(),
+            quads,
+        )
+    }
+}
+
+pub fn discrete_hash_key(hash: [f64; 4]) -> u64 {
+    let [h0, h1, h2, h3] = hash;
+    moorspindle_discrete_hash_key(h0, h1, h2, h3)
+}
+
+pub fn discrete_hash_key_neighbors(hash: [f64; 4], keys: &mut [u64]) -> u32 {
+    let [h0, h1, h2, h3] = hash;
+    unsafe {
+        moorspindle_discrete_hash_key_neighbors(h0, h1, h2, h3, keys.as_mut_ptr(), keys.len())
+    }
 }

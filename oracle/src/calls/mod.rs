@@ -5,8 +5,9 @@ use crate::case::{Answer, Case, Kind};
 use crate::random::Random;
 
 mod floats;
+mod quad;
 
-pub const GROUPS: &[Group] = &[floats::GROUP];
+pub const GROUPS: &[Group] = &[floats::GROUP, quad::GROUP];
 
 /// A call of Moorspindle's, its cases, and the two sources of its answers.
 pub struct Call {

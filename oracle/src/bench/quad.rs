@@ -1,0 +1,107 @@
+//! The quads against the Rust. Stars, hashes and outputs are made beforehand; what the Rust
+//! allocates in a call is its own time.
+
+use std::cell::RefCell;
+use std::hint::black_box;
+
+use celestial_catalog::query::{self, QuadStar};
+
+use super::Row;
+use crate::random::Random;
+use crate::stars::Stars;
+use crate::{ours, theirs};
+
+const HASHES: usize = 12_000;
+const FOURS: usize = 4_096;
+const LISTS: usize = 4;
+
+pub fn rows(random: &mut Random) -> Vec<Row> {
+    let hashes: Vec<[f64; 4]> =
+        (0..HASHES).map(|_| [(); 4].map(|()| random.between(-1.0, 1.0))).collect();
+    let lists: Vec<Stars> = (0..LISTS).map(|_| field(random)).collect();
+    let stars = lists[0].clone();
+    let fours: Vec<[u8; 4]> = (0..FOURS).map(|_| four(random)).collect();
+    let few: Vec<[u8; 4]> = fours.iter().map(|_| [0, 1, 2, 3]).collect();
+    let few_stars = first_four(&stars);
+    let [all, all_too, some, some_too] =
+        [&stars, &stars, &few_stars, &few_stars].map(|stars| stars.clone());
+    let [theirs_all, theirs_all_too] = [&stars, &stars].map(stars_of);
+    let [theirs_some, theirs_some_too] = [&few_stars, &few_stars].map(stars_of);
+    let their_lists: Vec<Vec<QuadStar>> = lists.iter().map(stars_of).collect();
+
+    let keys = RefCell::new([0; 81]);
+    let outputs = RefCell::new((vec![0; 48_000], vec![0.0; 48_000], 0));
+    vec![
+        Row::over("81 keys of a hash", "Moorspindle", &hashes, move |&hash| {
+            let mut keys = keys.borrow_mut();
+            ours::discrete_hash_key_neighbors(hash, &mut *keys);
+            black_box(&*keys);
+        }),
+        Row::over("81 keys of a hash", "the Rust", &hashes, |hash| {
+            black_box(&query::discrete_hash_key_neighbors(hash));
+        }),
+        Row::over("key of a hash", "Moorspindle", &hashes, |&hash| ours::discrete_hash_key(hash)),
+        Row::over("key of a hash", "the Rust", &hashes, query::discrete_hash_key),
+        Row::over("spine of 4 of 100", "Moorspindle", &fours, move |&places| spine(&all, places)),
+        Row::over("spine of 4 of 100", "the Rust", &fours, move |&places| {
+            query::find_spine(&theirs_all, places.map(usize::from))
+        }),
+        Row::over("spine of 4 of 4", "Moorspindle", &few, move |&places| spine(&some, places)),
+        Row::over("spine of 4 of 4", "the Rust", &few, move |&places| {
+            query::find_spine(&theirs_some, places.map(usize::from))
+        }),
+        Row::over("hash of 4 of 100", "Moorspindle", &fours, move |&quad| hash(&all_too, quad)),
+        Row::over("hash of 4 of 100", "the Rust", &fours, move |&quad| {
+            their_hash(&theirs_all_too, quad)
+        }),
+        Row::over("hash of 4 of 4", "Moorspindle", &few, move |&quad| hash(&some_too, quad)),
+        Row::over("hash of 4 of 4", "the Rust", &few, move |&quad| {
+            their_hash(&theirs_some_too, quad)
+        }),
+        Row::over("quads of 100, k = 10", "Moorspindle", &lists, move |stars| {
+            let (places, hashes, quads) = &mut *outputs.borrow_mut();
+            ours::neighbor_quads(&stars.xs, &stars.ys, 10, 0.0, places, hashes, quads);
+            black_box((places, hashes));
+        }),
+        Row::over("quads of 100, k = 10", "the Rust", &their_lists, |stars| {
+            query::neighbor_quads(stars, 10, 0.0)
+        }),
+    ]
+}
+
+/// A hundred stars of a picture.
+fn field(random: &mut Random) -> Stars {
+    let mut list = || (0..100).map(|_| random.between(0.0, 4096.0)).collect();
+    Stars { xs: list(), ys: list() }
+}
+
+fn first_four(stars: &Stars) -> Stars {
+    Stars { xs: stars.xs[..4].to_vec(), ys: stars.ys[..4].to_vec() }
+}
+
+/// Four places, no two of them equal.
+fn four(random: &mut Random) -> [u8; 4] {
+    let first = random.below(25) as u8;
+    [first, 25 + random.below(25) as u8, 50 + random.below(25) as u8, 75 + first]
+}
+
+fn stars_of(stars: &Stars) -> Vec<QuadStar> {
+    stars.xs.iter().zip(&stars.ys).map(|(&x, &y)| theirs::quad::star(x, y)).collect()
+}
+
+fn spine(stars: &Stars, places: [u8; 4]) -> [u8; 4] {
+    let mut spine = [0; 4];
+    ours::find_spine(&stars.xs, &stars.ys, places, &mut spine);
+    spine
+}
+
+fn hash(stars: &Stars, quad: [u8; 4]) -> ([f64; 4], [u8; 4]) {
+    let (mut hash, mut places) = ([0.0; 4], [0; 4]);
+    ours::normalize_quad_ordered(&stars.xs, &stars.ys, quad, &mut hash, &mut places);
+    (hash, places)
+}
+
+fn their_hash(stars: &[QuadStar], quad: [u8; 4]) -> Option<([f64; 4], [usize; 4])> {
+    let [a, b, c, d] = quad.map(usize::from);
+    query::normalize_quad_ordered(stars, a, b, c, d)
+}
