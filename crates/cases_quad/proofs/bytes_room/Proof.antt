@@ -1,0 +1,13 @@
+use borrow.Author.Needs.{needs}
+use Rattle.cases_quad.proofs.Counts.{counts}
+use Rattle.cases_quad.proofs.bytes_room.Statement.{statement}
+use Rattle.cases_quad.proofs.bytes_room.Tie as tie
+
+held-at-requires : tie.Need-held-at-requires
+held-at-requires c κs = search needs
+
+returns : tie.Need-returns
+returns c = counts _ _ (c .held-at .ensures)
+
+pub bytes-room-spec : {M : Type 1} → statement M
+bytes-room-spec = tie.close (tie.spec held-at-requires returns)
