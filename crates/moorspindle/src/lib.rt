@@ -9,7 +9,9 @@ ghost use Rattle.floats.specs.Root.{rootOf};
 ghost use Rattle.domain.specs.Answers.{answerNumber, lentAfter};
 ghost use Rattle.quad_key.specs.Key.{keyOf, neighbourKeys, keysAnswer};
 ghost use Rattle.quad.specs.Quads.{quadsAnswer, quadPlaces, quadHashes};
-ghost use Rattle.quad_face.specs.Face.{numberAfter, spineFace, spineWritten, star, orientFace, orientWritten, normalFace, hashWritten, placesWritten, startFace, startWritten, stepPlaces, stepBytes, stepGiven, stepFrom, nextFace, quadsCount, quadsFace, hashFrom};
+ghost use Rattle.quad_face.specs.Face.{numberAfter, spineFace, spineWritten, star, orientFace, orientWritten, normalFace};
+ghost use Rattle.quad_face.specs.Face.{hashWritten, placesWritten, startFace, startWritten, stepPlaces, stepBytes, stepGiven};
+ghost use Rattle.quad_face.specs.Face.{stepFrom, nextFace, quadsCount, quadsFace, hashFrom};
 
 // ---- floats
 
@@ -92,7 +94,8 @@ pub extern "C" fn moorspindle_normalize_quad_ordered(
     hash: &mut [f64],
     places: &mut [u8],
 ) -> u32
-    ensures number { λ r. ⌜ r ≡ answerNumber (normalFace (now (xs .entry)) (now (ys .entry)) a b c d (length (now (hash .entry))) (length (now (places .entry)))) ⌝ }
+    ensures number { λ r. ⌜ r ≡ answerNumber
+        (normalFace (now (xs .entry)) (now (ys .entry)) a b c d (length (now (hash .entry))) (length (now (places .entry)))) ⌝ }
     ensures hash { λ r. ⌜ now (hash .exit) ≡ lentAfter
         (normalFace (now (xs .entry)) (now (ys .entry)) a b c d (length (now (hash .entry))) (length (now (places .entry))))
         (hashWritten (now (xs .entry)) (now (ys .entry)) a b c d)
@@ -147,7 +150,8 @@ pub extern "C" fn moorspindle_neighbor_quads(
     hashes: &mut [f64],
     quads: &mut u64,
 ) -> u32
-    ensures number { λ r. ⌜ r ≡ answerNumber (quadsFace (now (xs .entry)) (now (ys .entry)) k least (length (now (places .entry))) (length (now (hashes .entry)))) ⌝ }
+    ensures number { λ r. ⌜ r ≡ answerNumber
+        (quadsFace (now (xs .entry)) (now (ys .entry)) k least (length (now (places .entry))) (length (now (hashes .entry)))) ⌝ }
     ensures places { λ r. ⌜ now (places .exit) ≡ lentAfter
         (quadsFace (now (xs .entry)) (now (ys .entry)) k least (length (now (places .entry))) (length (now (hashes .entry))))
         (quadPlaces (now (xs .entry)) (now (ys .entry)) k least)

@@ -161,7 +161,8 @@ fn put_quads(
     hashes: &mut [f64],
 ) -> Quads
     requires { ⌜ (k ≤ 10) × (length (now xs) ≤ 100) ⌝ }
-    ensures { λ r. ⌜ (r ≡ roomAnswer (length (quadPlaces (now (xs .entry)) (now (ys .entry)) k least)) (length (now (places .entry))) (length (now (hashes .entry))))
+    ensures { λ r. ⌜ (r ≡ roomAnswer
+        (length (quadPlaces (now (xs .entry)) (now (ys .entry)) k least)) (length (now (places .entry))) (length (now (hashes .entry))))
         × (now (places .exit) ≡ lentAfterQuads r (quadPlaces (now (xs .entry)) (now (ys .entry)) k least) (now (places .entry)))
         × (now (hashes .exit) ≡ lentAfterQuads r (quadHashes (now (xs .entry)) (now (ys .entry)) k least) (now (hashes .entry))) ⌝ }
 {

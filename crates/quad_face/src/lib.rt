@@ -20,7 +20,10 @@ ghost use lib.ListN.{length};
 ghost use Rattle.domain.specs.Answers.{answerNumber, written, lentAfter};
 ghost use Rattle.quad_key.specs.Key.{keyOf, neighbourKeys, keysAnswer};
 ghost use Rattle.quad.specs.Quads.{quadsAnswer, quadPlaces, quadHashes};
-ghost use Rattle.quad_face.specs.Face.{roomFor, numberAfter, spineFace, spineWritten, star, orientFace, orientWritten, quadRoom, inTurn, hashNumbers, quadBytes, normalFace, hashWritten, placesWritten, stateBytes, startFace, startWritten, stateIn, stateAnswer, stepDone, stepPlaces, stepBytes, stepGiven, stepFrom, nextFace, quadsCount, quadsFace, hashFrom};
+ghost use Rattle.quad_face.specs.Face.{roomFor, numberAfter, spineFace, spineWritten, star, orientFace, orientWritten, quadRoom};
+ghost use Rattle.quad_face.specs.Face.{inTurn, hashNumbers, quadBytes, normalFace, hashWritten, placesWritten, stateBytes};
+ghost use Rattle.quad_face.specs.Face.{startFace, startWritten, stateIn, stateAnswer, stepDone, stepPlaces, stepBytes, stepGiven};
+ghost use Rattle.quad_face.specs.Face.{stepFrom, nextFace, quadsCount, quadsFace, hashFrom};
 
 // Writes two bytes into the front of a list that has the room.
 fn put_two(out: &mut [u8], a: u8, b: u8) -> Answer
@@ -231,7 +234,8 @@ pub fn normalize_quad_ordered(
     hash: &mut [f64],
     places: &mut [u8],
 ) -> u32
-    ensures number { λ r. ⌜ r ≡ answerNumber (normalFace (now (xs .entry)) (now (ys .entry)) a b c d (length (now (hash .entry))) (length (now (places .entry)))) ⌝ }
+    ensures number { λ r. ⌜ r ≡ answerNumber
+        (normalFace (now (xs .entry)) (now (ys .entry)) a b c d (length (now (hash .entry))) (length (now (places .entry)))) ⌝ }
     ensures hash { λ r. ⌜ now (hash .exit) ≡ lentAfter
         (normalFace (now (xs .entry)) (now (ys .entry)) a b c d (length (now (hash .entry))) (length (now (places .entry))))
         (hashWritten (now (xs .entry)) (now (ys .entry)) a b c d)
@@ -293,7 +297,8 @@ pub fn neighbor_quads(
     hashes: &mut [f64],
     quads: &mut u64,
 ) -> u32
-    ensures number { λ r. ⌜ r ≡ answerNumber (quadsFace (now (xs .entry)) (now (ys .entry)) k least (length (now (places .entry))) (length (now (hashes .entry)))) ⌝ }
+    ensures number { λ r. ⌜ r ≡ answerNumber
+        (quadsFace (now (xs .entry)) (now (ys .entry)) k least (length (now (places .entry))) (length (now (hashes .entry)))) ⌝ }
     ensures places { λ r. ⌜ now (places .exit) ≡ lentAfter
         (quadsFace (now (xs .entry)) (now (ys .entry)) k least (length (now (places .entry))) (length (now (hashes .entry))))
         (quadPlaces (now (xs .entry)) (now (ys .entry)) k least)
