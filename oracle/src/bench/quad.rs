@@ -16,7 +16,7 @@ const FOURS: usize = 4_096;
 const LISTS: usize = 4;
 
 pub fn rows(random: &mut Random) -> Vec<Row> {
-    let hashes: Vec<[f64; 4]> =
+    let signs: Vec<[f64; 4]> =
         (0..HASHES).map(|_| [(); 4].map(|()| random.between(-1.0, 1.0))).collect();
     let lists: Vec<Stars> = (0..LISTS).map(|_| field(random)).collect();
     let stars = lists[0].clone();
@@ -28,8 +28,10 @@ pub fn rows(random: &mut Random) -> Vec<Row> {
     let [theirs_all, theirs_all_too] = [&stars, &stars].map(stars_of);
     let [theirs_some, theirs_some_too] = [&few_stars, &few_stars].map(stars_of);
     let their_lists: Vec<Vec<QuadStar>> = lists.iter().map(stars_of).collect();
+    let quads = their_lists.iter().flat_map(|stars| query::neighbor_quads(stars, 10, 0.0));
+    let hashes: Vec<[f64; 4]> = quads.map(|quad| quad.hash).take(HASHES).collect();
 
-    let keys = RefCell::new([0; 81]);
+    let [keys, keys_too] = [(), ()].map(|()| RefCell::new([0; 81]));
     let outputs = RefCell::new((vec![0; 48_000], vec![0.0; 48_000], 0));
     vec![
         Row::over("81 keys of a hash", "Moorspindle", &hashes, move |&hash| {
@@ -38,6 +40,14 @@ pub fn rows(random: &mut Random) -> Vec<Row> {
             black_box(&*keys);
         }),
         Row::over("81 keys of a hash", "the Rust", &hashes, |hash| {
+            black_box(&query::discrete_hash_key_neighbors(hash));
+        }),
+        Row::over("81 keys, all signs at random", "Moorspindle", &signs, move |&hash| {
+            let mut keys = keys_too.borrow_mut();
+            ours::discrete_hash_key_neighbors(hash, &mut *keys);
+            black_box(&*keys);
+        }),
+        Row::over("81 keys, all signs at random", "the Rust", &signs, |hash| {
             black_box(&query::discrete_hash_key_neighbors(hash));
         }),
         Row::over("key of a hash", "Moorspindle", &hashes, |&hash| ours::discrete_hash_key(hash)),
