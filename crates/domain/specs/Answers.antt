@@ -1,6 +1,8 @@
--- The numbers of the answers, and what stands in a lent list after a call. Definitions only.
+-- The numbers of the answers, their order, and what stands in a lent list or number after a call. Definitions only.
+use mathlib.Core.Bool.{cond}
 use mathlib.Core.List.{List, _++_}
 use Prim.Native.Nat.{ℕ}
+use lib.Dec.{ltb}
 use lib.ListN.{length, drop}
 use Rattle.domain.specs.declared.Refusal.{Refusal}
 use Rattle.domain.specs.declared.Refusal.the-variants.{Count, Lengths, Value, Place, Order, Rows, Room, Degenerate, Few, Form}
@@ -25,6 +27,15 @@ abbrev pub answerNumber : Answer → ℕ
 answerNumber Done = 0
 answerNumber (Refused why) = numberOf why
 
+-- the first refusal of two tests
+abbrev pub first : Answer → Answer → Answer
+first Done next = next
+first (Refused why) next = Refused why
+
+-- number 7 where a lent list has fewer places than the result needs
+abbrev pub roomFor : ℕ → ℕ → Answer
+roomFor need places = cond (ltb places need) (Refused Room) Done
+
 -- the result written from the front of the old list, whose further places keep their values
 abbrev pub written : {A : Type 0} → List A → List A → List A
 written vs old = vs ++ drop (length vs) old
@@ -33,3 +44,8 @@ written vs old = vs ++ drop (length vs) old
 abbrev pub lentAfter : {A : Type 0} → Answer → List A → List A → List A
 lentAfter Done vs old = written vs old
 lentAfter (Refused why) vs old = old
+
+-- a lent number after a call: the result when it is done, and the old one when it is refused
+abbrev pub numberAfter : Answer → ℕ → ℕ → ℕ
+numberAfter Done new old = new
+numberAfter (Refused why) new old = old

@@ -6,10 +6,10 @@ ghost use Rattle.floats.specs.Magnitude.{magnitudeOf};
 ghost use Rattle.floats.specs.Floor.{floorOf};
 ghost use Rattle.floats.specs.Power.{powerOf};
 ghost use Rattle.floats.specs.Root.{rootOf};
-ghost use Rattle.domain.specs.Answers.{answerNumber, lentAfter};
+ghost use Rattle.domain.specs.Answers.{answerNumber, lentAfter, numberAfter};
 ghost use Rattle.quad_key.specs.Key.{keyOf, neighbourKeys, keysAnswer};
 ghost use Rattle.quad.specs.Quads.{quadsAnswer, quadPlaces, quadHashes};
-ghost use Rattle.quad_face.specs.Face.{numberAfter, spineFace, spineWritten, star, orientFace, orientWritten, normalFace};
+ghost use Rattle.quad_face.specs.Face.{spineFace, spineWritten, star, orientFace, orientWritten, normalFace};
 ghost use Rattle.quad_face.specs.Face.{hashWritten, placesWritten, startFace, startWritten, stepPlaces, stepBytes, stepGiven};
 ghost use Rattle.quad_face.specs.Face.{stepFrom, nextFace, quadsCount, quadsFace, hashFrom};
 

@@ -14,7 +14,9 @@ use Rattle.domain.specs.declared.Refusal.{Refusal}
 use Rattle.domain.specs.declared.Refusal.the-variants as refusal
 use Rattle.domain.specs.declared.Answer.{Answer}
 use Rattle.domain.specs.declared.Answer.the-variants as answer
-use Rattle.quad_spine.specs.Spine.{starsAnswer, first}
+use Rattle.domain.specs.Answers.{first}
+use Rattle.domain.proofs.Passed.{passed, both, neither}
+use Rattle.quad_spine.specs.Spine.{starsAnswer}
 use Rattle.quad_visit.specs.Visit.{visited}
 use Rattle.quad_visit.proofs.Laws.{rest}
 use Rattle.quad.specs.declared.Tried.{Tried}
@@ -112,22 +114,9 @@ done xs ys k least places hashes ss m places' hashes' l l' v n p q =
 
 -- ---- what an input that passes its tests is like
 
--- a test that refuses did not hold where all are done
-passed : (b : Bool) (why : Refusal) (r : Answer) → cond b (answer.Refused why) r ≡ answer.Done → (b ≡ false) × (r ≡ answer.Done)
-passed true why r e = let z : _≡_ {A = ℕ} 0 1 = cc in absurd (omega arith)
-passed false why r e = (refl, e)
-
-or-left : (a b : Bool) → (a || b) ≡ false → a ≡ false
-or-left true b h = h
-or-left false b h = refl
-
-both : (a b : Answer) → first a b ≡ answer.Done → (a ≡ answer.Done) × (b ≡ answer.Done)
-both answer.Done b e = (refl, e)
-both (answer.Refused why) b e = let z : _≡_ {A = ℕ} 0 1 = cc in absurd (omega arith)
-
 few-stars : (xs ys : List Float) → starsAnswer xs ys ≡ answer.Done → length xs ≤ 100
 unfolding starsAnswer
-few-stars xs ys h = ltb-false 100 (length xs) (or-left (ltb 100 (length xs)) (ltb 100 (length ys)) (passed (ltb 100 (length xs) || ltb 100 (length ys)) refusal.Count _ h .0))
+few-stars xs ys h = ltb-false 100 (length xs) (neither (ltb 100 (length xs)) (ltb 100 (length ys)) (passed (ltb 100 (length xs) || ltb 100 (length ys)) refusal.Count _ h .0) .0)
 
 pub within : (xs ys : List Float) (k : ℕ) (least : Float) → inputAnswer xs ys k least ≡ answer.Done → (k ≤ 10) × (length xs ≤ 100)
 unfolding inputAnswer

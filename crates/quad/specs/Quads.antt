@@ -6,14 +6,14 @@ use lib.Dec.{ltb}
 use lib.ListN.{length}
 use lib.Ieee.{Float, lt}
 use Rattle.domain.specs.Domain.{isLimit}
-use Rattle.domain.specs.Answers.{written}
+use Rattle.domain.specs.Answers.{first, written}
 use Rattle.domain.specs.declared.Refusal.the-variants as refusal
 use Rattle.domain.specs.declared.Answer.{Answer}
 use Rattle.domain.specs.declared.Answer.the-variants as answer
 use Rattle.quad_spine.specs.declared.Four.{Four}
 use Rattle.quad_spine.specs.declared.Scaled.{Scaled}
 use Rattle.quad_spine.specs.declared.Scaled.the-variants as scaled
-use Rattle.quad_spine.specs.Spine.{starAt, distSq, spineOf, normalOf, starsAnswer, first}
+use Rattle.quad_spine.specs.Spine.{starAt, distSq, spineOf, normalOf, starsAnswer}
 use Rattle.quad_visit.specs.Visit.{visited}
 use Rattle.quad.specs.declared.Tried.{Tried}
 use Rattle.quad.specs.declared.Tried.the-variants as tried

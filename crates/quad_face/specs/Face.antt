@@ -5,7 +5,7 @@ use Prim.Native.Nat.{ℕ}
 use lib.Dec.{ltb, eqb}
 use lib.ListN.{length, getD}
 use lib.Ieee.{Float}
-use Rattle.domain.specs.Answers.{numberOf}
+use Rattle.domain.specs.Answers.{numberOf, first, roomFor}
 use Rattle.domain.specs.Domain.{isMaskByte}
 use Rattle.domain.specs.declared.Refusal.{Refusal}
 use Rattle.domain.specs.declared.Refusal.the-variants as refusal
@@ -20,7 +20,7 @@ use Rattle.quad_spine.specs.declared.Oriented.the-variants as turned
 use Rattle.quad_spine.specs.declared.Normal.{Normal}
 use Rattle.quad_spine.specs.declared.Normal.the-variants as normal
 use Rattle.quad_spine.specs.declared.Quad.{Quad}
-use Rattle.quad_spine.specs.Spine.{first, spineAnswer, orientAnswer, normalAnswer}
+use Rattle.quad_spine.specs.Spine.{spineAnswer, orientAnswer, normalAnswer}
 use Rattle.quad_combinations.specs.declared.State.{State}
 use Rattle.quad_combinations.specs.declared.Start.{Start}
 use Rattle.quad_combinations.specs.declared.Start.the-variants as start
@@ -30,15 +30,6 @@ use Rattle.quad_combinations.specs.Combinations.{four, startOf, stepOf}
 use Rattle.quad.specs.declared.Quads.{Quads}
 use Rattle.quad.specs.declared.Quads.the-variants as quads
 use Rattle.quad.specs.Quads.{quadsAnswer}
-
--- number 7 where a lent list has fewer places than the result needs
-abbrev pub roomFor : ℕ → ℕ → Answer
-roomFor need places = cond (ltb places need) (answer.Refused refusal.Room) answer.Done
-
--- a lent number after a call: the result when it is done, and the old one when it is refused
-abbrev pub numberAfter : Answer → ℕ → ℕ → ℕ
-numberAfter answer.Done new old = new
-numberAfter (answer.Refused why) new old = old
 
 -- whether a spine was found
 abbrev pub spineDone : Spine → Answer

@@ -5,7 +5,7 @@ use Prim.Native.Nat.{ℕ}
 use lib.Dec.{ltb, eqb}
 use lib.ListN.{length, getD}
 use lib.Ieee.{Float, nan, binary64, ofBits, add, sub, mul, div, lt, eq, le}
-use Rattle.domain.specs.Answers.{numberOf}
+use Rattle.domain.specs.Answers.{numberOf, first}
 use Rattle.domain.specs.Domain.{isPosition, every}
 use Rattle.domain.specs.declared.Refusal.the-variants as refusal
 use Rattle.domain.specs.declared.Answer.{Answer}
@@ -131,11 +131,6 @@ starsAnswer xs ys =
 -- What the test of four places in a list of n comes to: number 4, or done.
 unfoldable pub placesAnswer : ℕ → ℕ → ℕ → ℕ → ℕ → Answer
 placesAnswer n a b c d = cond (ltb a n && (ltb b n && (ltb c n && ltb d n))) answer.Done (answer.Refused refusal.Place)
-
--- The first refusal of two tests.
-abbrev pub first : Answer → Answer → Answer
-first answer.Done next = next
-first (answer.Refused why) next = answer.Refused why
 
 -- What the tests of two star lists and four places in them come to.
 unfoldable pub fourAnswer : List Float → List Float → ℕ → ℕ → ℕ → ℕ → Answer
