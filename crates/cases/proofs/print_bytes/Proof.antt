@@ -1,15 +1,10 @@
+-- `cases::print_bytes` is safe and returns, and meets its contract where it has one. Assumes nothing.
 use borrow.Author.Needs.{needs}
 use mathlib.Core.Path.{_≡_}
 use Prim.Native.Nat.{_≤_, _-_}
 use lib.ListN.{length}
-use Rattle.cases_quad.proofs.print_words.Statement.{statement}
-use Rattle.cases_quad.proofs.print_words.Tie as tie
-use Rattle.cases_quad.proofs.print_words.Reads as reads
-use Rattle.cases_quad.proofs.print_words.Lts as lts
-use Rattle.cases_quad.proofs.print_comma.Reads as print-comma-reads
-use Rattle.cases_quad.proofs.print_empty.Reads as print-empty-reads
-use Rattle.cases_quad.proofs.print_number.Reads as print-number-reads
-use Rattle.cases_quad.proofs.print_space.Reads as print-space-reads
+use Rattle.cases.proofs.print_bytes.Statement.{statement}
+use Rattle.cases.proofs.print_bytes.Tie as tie
 
 abbrev Inv-loop : tie.InvT-loop
 Inv-loop list i₀ i-end i = (i-end ≡ length list) × (i ≤ i-end)
@@ -17,52 +12,41 @@ Inv-loop list i₀ i-end i = (i-end ≡ length list) × (i ≤ i-end)
 abbrev μ-loop : tie.MeasureT-loop
 μ-loop list i₀ i-end i = i-end - i
 
--- src/main.rt:211:5
 print-space-requires : tie.Need-print-space-requires Inv-loop μ-loop
 print-space-requires c κs = search needs
 
--- src/main.rt:212:5
 print-empty-requires : tie.Need-print-empty-requires Inv-loop μ-loop
 print-empty-requires c κs = search needs
 
--- src/main.rt:213:5
 loop-holds : tie.Need-loop-holds Inv-loop μ-loop
 loop-holds c = search needs
 
--- src/main.rt:214:9
 print-comma-requires : tie.Need-print-comma-requires Inv-loop μ-loop
 print-comma-requires c κs = search needs
 
--- src/main.rt:215:22
-mul-print-number : tie.Need-mul-print-number Inv-loop μ-loop
-mul-print-number c = search needs
+shared-slice-read-wide : tie.Need-shared-slice-read-wide Inv-loop μ-loop
+shared-slice-read-wide c = search needs
 
--- src/main.rt:215:22
-shared-slice-read-print-number : tie.Need-shared-slice-read-print-number Inv-loop μ-loop
-shared-slice-read-print-number c = search needs
+wide-requires : tie.Need-wide-requires Inv-loop μ-loop
+wide-requires c κs = search needs
 
--- src/main.rt:215:9
 print-number-requires : tie.Need-print-number-requires Inv-loop μ-loop
 print-number-requires c κs = search needs
 
--- src/main.rt:213:9
 add-i : tie.Need-add-i Inv-loop μ-loop
 add-i c = search needs
 
--- src/main.rt:213:5
 loop-less : tie.Need-loop-less Inv-loop μ-loop
 loop-less c = search needs
 
--- src/main.rt:213:5
 loop-again : tie.Need-loop-again Inv-loop μ-loop
 loop-again c = search needs
 
--- src/main.rt:210:1
 returns : tie.Need-returns Inv-loop μ-loop
 returns c = search needs
 
-pub print-words-spec : {M : Type 1} → statement M
-print-words-spec =
+pub print-bytes-spec : {M : Type 1} → statement M
+print-bytes-spec =
     tie.close
     (tie.spec
     Inv-loop
@@ -71,8 +55,8 @@ print-words-spec =
     print-empty-requires
     loop-holds
     print-comma-requires
-    mul-print-number
-    shared-slice-read-print-number
+    shared-slice-read-wide
+    wide-requires
     print-number-requires
     add-i
     loop-less

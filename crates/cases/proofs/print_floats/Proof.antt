@@ -1,15 +1,10 @@
+-- `cases::print_floats` is safe and returns, and meets its contract where it has one. Assumes nothing.
 use borrow.Author.Needs.{needs}
 use mathlib.Core.Path.{_≡_}
 use Prim.Native.Nat.{_≤_, _-_}
 use lib.ListN.{length}
-use Rattle.cases_quad.proofs.print_floats.Statement.{statement}
-use Rattle.cases_quad.proofs.print_floats.Tie as tie
-use Rattle.cases_quad.proofs.print_floats.Reads as reads
-use Rattle.cases_quad.proofs.print_floats.Lts as lts
-use Rattle.cases_quad.proofs.print_comma.Reads as print-comma-reads
-use Rattle.cases_quad.proofs.print_empty.Reads as print-empty-reads
-use Rattle.cases_quad.proofs.print_float.Reads as print-float-reads
-use Rattle.cases_quad.proofs.print_space.Reads as print-space-reads
+use Rattle.cases.proofs.print_floats.Statement.{statement}
+use Rattle.cases.proofs.print_floats.Tie as tie
 
 abbrev Inv-loop : tie.InvT-loop
 Inv-loop list i₀ i-end i = (i-end ≡ length list) × (i ≤ i-end)
@@ -17,47 +12,36 @@ Inv-loop list i₀ i-end i = (i-end ≡ length list) × (i ≤ i-end)
 abbrev μ-loop : tie.MeasureT-loop
 μ-loop list i₀ i-end i = i-end - i
 
--- src/main.rt:224:5
 print-space-requires : tie.Need-print-space-requires Inv-loop μ-loop
 print-space-requires c κs = search needs
 
--- src/main.rt:225:5
 print-empty-requires : tie.Need-print-empty-requires Inv-loop μ-loop
 print-empty-requires c κs = search needs
 
--- src/main.rt:226:5
 loop-holds : tie.Need-loop-holds Inv-loop μ-loop
 loop-holds c = search needs
 
--- src/main.rt:227:9
 print-comma-requires : tie.Need-print-comma-requires Inv-loop μ-loop
 print-comma-requires c κs = search needs
 
--- src/main.rt:228:21
 mul-print-float : tie.Need-mul-print-float Inv-loop μ-loop
 mul-print-float c = search needs
 
--- src/main.rt:228:21
 shared-slice-read-print-float : tie.Need-shared-slice-read-print-float Inv-loop μ-loop
 shared-slice-read-print-float c = search needs
 
--- src/main.rt:228:9
 print-float-requires : tie.Need-print-float-requires Inv-loop μ-loop
 print-float-requires c κs = search needs
 
--- src/main.rt:226:9
 add-i : tie.Need-add-i Inv-loop μ-loop
 add-i c = search needs
 
--- src/main.rt:226:5
 loop-less : tie.Need-loop-less Inv-loop μ-loop
 loop-less c = search needs
 
--- src/main.rt:226:5
 loop-again : tie.Need-loop-again Inv-loop μ-loop
 loop-again c = search needs
 
--- src/main.rt:223:1
 returns : tie.Need-returns Inv-loop μ-loop
 returns c = search needs
 
