@@ -1,8 +1,9 @@
 //! A case and its answer: fields, written on one line and separated by one space.
 //!
 //! A float is the 16 lowercase hex digits of its bits, every NaN 7ff8000000000000. A number is
-//! decimal. A list has commas between its members, and an empty one is `-`. The line of a case
-//! starts with its call's name; the line of an answer does not.
+//! decimal, and an id the 16 digits of its two's complement. A list has commas between its members,
+//! and an empty one is `-`. The line of a case starts with its call's name; the line of an answer
+//! does not.
 
 use std::fmt::{self, Display};
 
@@ -13,6 +14,7 @@ pub enum Kind {
     Number,
     Floats,
     Numbers,
+    Ids,
 }
 
 #[derive(Clone, Debug)]
@@ -21,6 +23,7 @@ enum Field {
     Number(i128),
     Floats(Vec<f64>),
     Numbers(Vec<i128>),
+    Ids(Vec<i64>),
 }
 
 /// The fields of a case or of an answer, put together one after the other.
@@ -61,6 +64,10 @@ impl Fields {
         self.with(Field::Numbers(list.iter().map(|&n| n.into()).collect()))
     }
 
+    pub fn ids(self, list: &[i64]) -> Fields {
+        self.with(Field::Ids(list.to_vec()))
+    }
+
     pub fn float_at(&self, place: usize) -> f64 {
         match &self.0[place] {
             Field::Float(x) => *x,
@@ -89,6 +96,13 @@ impl Fields {
         }
     }
 
+    pub fn ids_at(&self, place: usize) -> &[i64] {
+        match &self.0[place] {
+            Field::Ids(list) => list,
+            other => panic!("field {place} is no list of ids: {other:?}"),
+        }
+    }
+
     /// Reads the fields of a line, which must be of these kinds.
     pub fn parse(words: &[&str], kinds: &[Kind]) -> Result<Fields, String> {
         if words.len() != kinds.len() {
@@ -100,6 +114,7 @@ impl Fields {
                 Kind::Number => Field::Number(parse_number(word)?),
                 Kind::Floats => Field::Floats(parse_list(word, parse_float)?),
                 Kind::Numbers => Field::Numbers(parse_list(word, parse_number)?),
+                Kind::Ids => Field::Ids(parse_list(word, parse_id)?),
             })
         });
         fields.collect::<Result<_, String>>().map(Fields)
@@ -110,13 +125,20 @@ fn narrow<T: TryFrom<i128>>(n: i128) -> T {
     T::try_from(n).unwrap_or_else(|_| panic!("{n} is outside the call's type"))
 }
 
-fn parse_float(word: &str) -> Result<f64, String> {
+fn parse_bits(word: &str) -> Result<u64, String> {
     let digits = |c: u8| c.is_ascii_digit() || (b'a'..=b'f').contains(&c);
     if word.len() != 16 || !word.bytes().all(digits) {
-        return Err(format!("{word} is not the 16 hex digits of a float"));
+        return Err(format!("{word} is not 16 hex digits"));
     }
-    let bits = u64::from_str_radix(word, 16).map_err(|e| e.to_string())?;
-    Ok(f64::from_bits(bits))
+    u64::from_str_radix(word, 16).map_err(|e| e.to_string())
+}
+
+fn parse_float(word: &str) -> Result<f64, String> {
+    parse_bits(word).map(f64::from_bits)
+}
+
+fn parse_id(word: &str) -> Result<i64, String> {
+    parse_bits(word).map(|bits| bits as i64)
 }
 
 fn parse_number(word: &str) -> Result<i128, String> {
@@ -140,6 +162,7 @@ impl PartialEq for Field {
                 x.iter().copied().map(bits).eq(y.iter().copied().map(bits))
             }
             (Field::Numbers(m), Field::Numbers(n)) => m == n,
+            (Field::Ids(m), Field::Ids(n)) => m == n,
             _ => false,
         }
     }
@@ -164,6 +187,7 @@ impl Display for Field {
             Field::Number(n) => write!(f, "{n}"),
             Field::Floats(list) => write_list(f, list, |f, x| write!(f, "{:016x}", bits(*x))),
             Field::Numbers(list) => write_list(f, list, |f, n| write!(f, "{n}")),
+            Field::Ids(list) => write_list(f, list, |f, id| write!(f, "{id:016x}")),
         }
     }
 }
@@ -191,12 +215,15 @@ mod tests {
 
     #[test]
     fn a_line_reads_back() {
-        let line = "bff0000000000000 -7 8000000000000000,7ff8000000000000 - 0,18446744073709551615";
+        let line = "bff0000000000000 -7 8000000000000000,7ff8000000000000 - 0,18446744073709551615 \
+                    fffffffffffffff9";
         let words: Vec<&str> = line.split(' ').collect();
-        let kinds = [Kind::Float, Kind::Number, Kind::Floats, Kind::Floats, Kind::Numbers];
+        let kinds =
+            [Kind::Float, Kind::Number, Kind::Floats, Kind::Floats, Kind::Numbers, Kind::Ids];
         let read = Fields::parse(&words, &kinds).unwrap();
         assert_eq!(read.to_string(), line);
         assert_eq!(read.numbers_at::<u64>(4), [0, u64::MAX]);
+        assert_eq!(read.ids_at(5), [-7]);
     }
 
     #[test]

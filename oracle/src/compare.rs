@@ -10,8 +10,11 @@ const SHOWN: usize = 5;
 /// Prints a line for each comparison of the group; true if no answer differed.
 pub fn group(group: &Group, count: Option<usize>, seed: u64) -> bool {
     let mut same = true;
-    for call in group.calls.iter().chain(group.also) {
+    for call in group.calls {
         same &= one(call, count.unwrap_or(call.count), seed);
+    }
+    for call in group.also {
+        same &= one(call, call.count.min(count.unwrap_or(call.count)), seed);
     }
     for note in (group.notes)(&mut Random::new(seed, group.name)) {
         println!("{note}");

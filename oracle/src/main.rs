@@ -16,6 +16,7 @@ mod compare;
 mod edges;
 mod ours;
 mod random;
+mod rows;
 mod stars;
 mod theirs;
 

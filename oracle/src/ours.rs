@@ -1,5 +1,7 @@
 //! Moorspindle's calls, as bindings/c/moorspindle.h declares them.
 
+pub mod matching;
+
 #[link(name = "moorspindle", kind = "static")]
 unsafe extern "C" {
     safe fn moorspindle_magnitude(x: f64) -> f64;

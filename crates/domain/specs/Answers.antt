@@ -36,6 +36,10 @@ first (Refused why) next = Refused why
 abbrev pub roomFor : ℕ → ℕ → Answer
 roomFor need places = cond (ltb places need) (Refused Room) Done
 
+-- a refusal whose number is below 7 comes before that of the room, and any other after it
+abbrev pub inTurn : Refusal → Answer → Answer
+inTurn why room = cond (ltb (numberOf why) 7) (Refused why) (first room (Refused why))
+
 -- the result written from the front of the old list, whose further places keep their values
 abbrev pub written : {A : Type 0} → List A → List A → List A
 written vs old = vs ++ drop (length vs) old

@@ -1,6 +1,6 @@
 // Why a call is refused, and which numbers the calls take.
 ghost use mathlib.Core.Path.{_≡_};
-ghost use Rattle.domain.specs.Answers.{numberOf, answerNumber};
+ghost use Rattle.domain.specs.Answers.{numberOf, answerNumber, roomFor, inTurn};
 ghost use Rattle.domain.specs.Domain.{between, isPosition, isFinite, isSnr, isWeight, isLimit, isMaskByte, every};
 
 // A refusal, in the order in which the calls check for it.
@@ -62,6 +62,29 @@ impl Answer {
             Answer::Done => 0,
             Answer::Refused(why) => why.number(),
         }
+    }
+}
+
+// Whether a lent list has the places that a result needs.
+pub fn room_for(need: usize, places: usize) -> Answer
+    ensures { λ r. ⌜ r ≡ roomFor need places ⌝ }
+{
+    if places < need {
+        return Answer::Refused(Refusal::Room);
+    }
+    Answer::Done
+}
+
+// A refusal beside lists that may lack room: the lower number comes first.
+pub fn in_turn(why: Refusal, room: Answer) -> Answer
+    ensures { λ r. ⌜ r ≡ inTurn why room ⌝ }
+{
+    if why.number() < 7 {
+        return Answer::Refused(why);
+    }
+    match room {
+        Answer::Done => Answer::Refused(why),
+        Answer::Refused(lacks) => Answer::Refused(lacks),
     }
 }
 

@@ -5,7 +5,7 @@ use Prim.Native.Nat.{ℕ}
 use lib.Dec.{ltb, eqb}
 use lib.ListN.{length, getD}
 use lib.Ieee.{Float}
-use Rattle.domain.specs.Answers.{numberOf, first, roomFor}
+use Rattle.domain.specs.Answers.{first, roomFor, inTurn}
 use Rattle.domain.specs.Domain.{isMaskByte}
 use Rattle.domain.specs.declared.Refusal.{Refusal}
 use Rattle.domain.specs.declared.Refusal.the-variants as refusal
@@ -74,10 +74,6 @@ orientWritten p q = turnedPlaces (orientAnswer p q)
 -- number 7 where either list has fewer than 4 places
 abbrev pub quadRoom : ℕ → ℕ → Answer
 quadRoom room-h room-p = first (roomFor 4 room-h) (roomFor 4 room-p)
-
--- a refusal whose number is below 7 comes before that of the room, and any other after it
-abbrev pub inTurn : Refusal → Answer → Answer
-inTurn why room = cond (ltb (numberOf why) 7) (answer.Refused why) (first room (answer.Refused why))
 
 -- what a quad comes to in lists that may lack room
 abbrev pub normalDone : Normal → Answer → Answer

@@ -21,7 +21,7 @@ ghost use Rattle.domain.specs.Answers.{answerNumber, roomFor, written, lentAfte
 ghost use Rattle.quad_key.specs.Key.{keyOf, neighbourKeys, keysAnswer};
 ghost use Rattle.quad.specs.Quads.{quadsAnswer, quadPlaces, quadHashes};
 ghost use Rattle.quad_face.specs.Face.{spineFace, spineWritten, star, orientFace, orientWritten, quadRoom};
-ghost use Rattle.quad_face.specs.Face.{inTurn, hashNumbers, quadBytes, normalFace, hashWritten, placesWritten, stateBytes};
+ghost use Rattle.quad_face.specs.Face.{hashNumbers, quadBytes, normalFace, hashWritten, placesWritten, stateBytes};
 ghost use Rattle.quad_face.specs.Face.{startFace, startWritten, stateIn, stateAnswer, stepDone, stepPlaces, stepBytes, stepGiven};
 ghost use Rattle.quad_face.specs.Face.{stepFrom, nextFace, quadsCount, quadsFace, hashFrom};
 
@@ -88,20 +88,14 @@ fn put_quad(hash: &mut [f64], places: &mut [u8], q: Quad) -> Answer
     }
 }
 
-// A refusal beside lists that may lack room: the lower number comes first.
-fn in_turn(why: Refusal, hash: usize, places: usize) -> Answer
-    ensures { λ r. ⌜ r ≡ inTurn why (quadRoom hash places) ⌝ }
+// Whether two lists have the room for a quad.
+fn quad_room(hash: usize, places: usize) -> Answer
+    ensures { λ r. ⌜ r ≡ quadRoom hash places ⌝ }
 {
-    if why.number() < 7 {
-        return Answer::Refused(why);
-    }
     if hash < 4 {
         return Answer::Refused(Refusal::Room);
     }
-    if places < 4 {
-        return Answer::Refused(Refusal::Room);
-    }
-    Answer::Refused(why)
+    domain::room_for(4, places)
 }
 
 // 1 for true, 0 for false.
@@ -246,7 +240,10 @@ pub fn normalize_quad_ordered(
         (now (places .entry)) ⌝ }
 {
     match quad_spine::normalize_quad_ordered(xs, ys, a, b, c, d) {
-        Normal::Refused(why) => in_turn(why, hash.len(), places.len()).number(),
+        Normal::Refused(why) => {
+            let room = quad_room(hash.len(), places.len());
+            domain::in_turn(why, room).number()
+        },
         Normal::Hashed(q) => put_quad(hash, places, q).number(),
     }
 }

@@ -4,6 +4,7 @@ use std::hint::black_box;
 use std::time::Instant;
 
 pub mod floats;
+pub mod matching;
 pub mod quad;
 
 const ROUNDS: usize = 61;

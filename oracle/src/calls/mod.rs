@@ -5,9 +5,10 @@ use crate::case::{Answer, Case, Kind};
 use crate::random::Random;
 
 mod floats;
+mod matching;
 mod quad;
 
-pub const GROUPS: &[Group] = &[floats::GROUP, quad::GROUP];
+pub const GROUPS: &[Group] = &[floats::GROUP, quad::GROUP, matching::GROUP];
 
 /// A call of Moorspindle's, its cases, and the two sources of its answers.
 pub struct Call {

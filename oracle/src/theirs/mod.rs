@@ -2,6 +2,7 @@
 //! written out, in the order of their numbers; past them the answer is the Rust's own, put into
 //! what was lent.
 
+pub mod matching;
 pub mod quad;
 
 /// The number of the first refusal, or what was asked for.
@@ -25,6 +26,15 @@ fn number(answer: impl FnOnce() -> Tested<()>) -> u32 {
 
 fn is_position(x: f64) -> bool {
     x.abs() <= 1_048_576.0
+}
+
+fn is_finite(x: f64) -> bool {
+    x.is_finite()
+}
+
+/// -0.0 is one.
+fn is_snr(x: f64) -> bool {
+    (0.0..=1_048_576.0).contains(&x)
 }
 
 /// A least spine or an error limit; -0.0 is one.

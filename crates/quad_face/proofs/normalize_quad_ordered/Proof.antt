@@ -1,8 +1,8 @@
 -- `quad_face::normalize_quad_ordered` meets its contract: a refusal keeps both lists, and a quad goes where there is room. Assumes nothing.
-use Rattle.quad_face.specs.Face.{quadRoom, inTurn}
+use Rattle.quad_face.specs.Face.{quadRoom}
 use lib.ListN.{length}
 use Rattle.quad_face.proofs.Laws.{stays}
-use Rattle.domain.specs.Answers.{answerNumber}
+use Rattle.domain.specs.Answers.{answerNumber, inTurn}
 use mathlib.Core.Path.{ap, _∙_}
 use borrow.Author.Needs.{needs}
 use Rattle.quad_face.proofs.normalize_quad_ordered.Statement.{statement}
@@ -13,6 +13,9 @@ normalize-quad-ordered-requires c κs = search needs
 
 enum-known-why : tie.Need-enum-known-why
 enum-known-why c = search needs
+
+quad-room-requires : tie.Need-quad-room-requires
+quad-room-requires c κs = search needs
 
 in-turn-requires : tie.Need-in-turn-requires
 in-turn-requires c κs = search needs
@@ -31,10 +34,12 @@ number-requires-2 c κs = search needs
 
 returns : tie.Need-returns
 returns c =
-    let a = c .before .before .before .before .before .before .before .before .before .before .args in
-    let turn = inTurn (c .before .before .before .why .given .0 .0) (quadRoom (length (a .hash .now)) (length (a .places .now))) in
-    rw (← c .before .before .before .before .before .normalize-quad-ordered .ensures, c .before .before .before .why .given .1) (
-      c .number .ensures ∙ ap answerNumber (c .before .in-turn .ensures),
+    let made = c .before .before .before .before .before .before in
+    let a = made .before .before .before .before .before .args in
+    let why = c .before .before .before .before .why .given in
+    let turn = inTurn (why .0 .0) (quadRoom (length (a .hash .now)) (length (a .places .now))) in
+    rw (← made .normalize-quad-ordered .ensures, why .1) (
+      c .number .ensures ∙ ap answerNumber (c .before .in-turn .ensures ∙ ap (inTurn (why .0 .0)) (c .before .before .quad-room .ensures)),
       (
         stays turn _,
         stays turn _,
@@ -65,6 +70,7 @@ normalize-quad-ordered-spec =
     (tie.spec
     normalize-quad-ordered-requires
     enum-known-why
+    quad-room-requires
     in-turn-requires
     number-requires
     enum-known-q

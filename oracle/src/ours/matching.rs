@@ -1,0 +1,243 @@
+//! hash_index.rs, aggregate.rs and verify.rs. Each pointer comes from a Rust reference and goes
+//! with its length, and what is lent to be written overlaps nothing else.
+
+#[link(name = "moorspindle", kind = "static")]
+unsafe extern "C" {
+    fn moorspindle_find_matches(
+        image_places: *const u8,
+        image_places_len: usize,
+        image_hashes: *const f64,
+        image_hashes_len: usize,
+        catalogue_places: *const u8,
+        catalogue_places_len: usize,
+        catalogue_hashes: *const f64,
+        catalogue_hashes_len: usize,
+        matches: *mut u8,
+        matches_len: usize,
+        found: *mut u64,
+    ) -> u32;
+    fn moorspindle_extract_pairs(
+        matches: *const u8,
+        matches_len: usize,
+        det_x: *const f64,
+        det_x_len: usize,
+        det_y: *const f64,
+        det_y_len: usize,
+        det_snr: *const f64,
+        det_snr_len: usize,
+        image_ids: *const u32,
+        image_ids_len: usize,
+        catalogue_ids: *const i64,
+        catalogue_ids_len: usize,
+        result_ids: *const i64,
+        result_ids_len: usize,
+        result_ra: *const f64,
+        result_ra_len: usize,
+        result_dec: *const f64,
+        result_dec_len: usize,
+        px_x: *mut f64,
+        px_x_len: usize,
+        px_y: *mut f64,
+        px_y_len: usize,
+        ra: *mut f64,
+        ra_len: usize,
+        dec: *mut f64,
+        dec_len: usize,
+        votes: *mut u32,
+        votes_len: usize,
+        snr: *mut f64,
+        snr_len: usize,
+        pairs: *mut u64,
+    ) -> u32;
+    fn moorspindle_fit_affine_3pt(
+        px: *const f64,
+        px_len: usize,
+        py: *const f64,
+        py_len: usize,
+        xi: *const f64,
+        xi_len: usize,
+        eta: *const f64,
+        eta_len: usize,
+        a: u8,
+        b: u8,
+        c: u8,
+        affine: *mut f64,
+        affine_len: usize,
+    ) -> u32;
+    fn moorspindle_count_affine_inliers(
+        px: *const f64,
+        px_len: usize,
+        py: *const f64,
+        py_len: usize,
+        xi: *const f64,
+        xi_len: usize,
+        eta: *const f64,
+        eta_len: usize,
+        affine: *const f64,
+        affine_len: usize,
+        threshold: f64,
+        inliers: *mut u64,
+    ) -> u32;
+    fn moorspindle_verify_pairs(
+        px: *const f64,
+        px_len: usize,
+        py: *const f64,
+        py_len: usize,
+        xi: *const f64,
+        xi_len: usize,
+        eta: *const f64,
+        eta_len: usize,
+        score: *mut u64,
+    ) -> u32;
+}
+
+/// The places and hashes of a list of quads, four of each for a quad.
+#[derive(Clone, Copy)]
+pub struct Quads<'a> {
+    pub places: &'a [u8],
+    pub hashes: &'a [f64],
+}
+
+/// What votes are made of, but for the matches.
+#[derive(Clone, Copy)]
+pub struct Voters<'a> {
+    pub det_x: &'a [f64],
+    pub det_y: &'a [f64],
+    pub det_snr: &'a [f64],
+    pub image_ids: &'a [u32],
+    pub catalogue_ids: &'a [i64],
+    pub result_ids: &'a [i64],
+    pub result_ra: &'a [f64],
+    pub result_dec: &'a [f64],
+}
+
+/// The lists that pairs are written into.
+#[derive(Clone)]
+pub struct Pairs {
+    pub px_x: Vec<f64>,
+    pub px_y: Vec<f64>,
+    pub ra: Vec<f64>,
+    pub dec: Vec<f64>,
+    pub votes: Vec<u32>,
+    pub snr: Vec<f64>,
+}
+
+/// Four lists: px, py, xi, eta.
+pub type Rows<'a> = [&'a [f64]; 4];
+
+pub fn find_matches(image: Quads, catalogue: Quads, matches: &mut [u8], found: &mut u64) -> u32 {
+    unsafe {
+        moorspindle_find_matches(
+            image.places.as_ptr(),
+            image.places.len(),
+            image.hashes.as_ptr(),
+            image.hashes.len(),
+            catalogue.places.as_ptr(),
+            catalogue.places.len(),
+            catalogue.hashes.as_ptr(),
+            catalogue.hashes.len(),
+            matches.as_mut_ptr(),
+            matches.len(),
+            found,
+        )
+    }
+}
+
+pub fn extract_pairs(matches: &[u8], voters: Voters, out: &mut Pairs, pairs: &mut u64) -> u32 {
+    unsafe {
+        moorspindle_extract_pairs(
+            matches.as_ptr(),
+            matches.len(),
+            voters.det_x.as_ptr(),
+            voters.det_x.len(),
+            voters.det_y.as_ptr(),
+            voters.det_y.len(),
+            voters.det_snr.as_ptr(),
+            voters.det_snr.len(),
+            voters.image_ids.as_ptr(),
+            voters.image_ids.len(),
+            voters.catalogue_ids.as_ptr(),
+            voters.catalogue_ids.len(),
+            voters.result_ids.as_ptr(),
+            voters.result_ids.len(),
+            voters.result_ra.as_ptr(),
+            voters.result_ra.len(),
+            voters.result_dec.as_ptr(),
+            voters.result_dec.len(),
+            out.px_x.as_mut_ptr(),
+            out.px_x.len(),
+            out.px_y.as_mut_ptr(),
+            out.px_y.len(),
+            out.ra.as_mut_ptr(),
+            out.ra.len(),
+            out.dec.as_mut_ptr(),
+            out.dec.len(),
+            out.votes.as_mut_ptr(),
+            out.votes.len(),
+            out.snr.as_mut_ptr(),
+            out.snr.len(),
+            pairs,
+        )
+    }
+}
+
+pub fn fit_affine_3pt([px, py, xi, eta]: Rows, places: [u8; 3], affine: &mut [f64]) -> u32 {
+    let [a, b, c] = places;
+    unsafe {
+        moorspindle_fit_affine_3pt(
+            px.as_ptr(),
+            px.len(),
+            py.as_ptr(),
+            py.len(),
+            xi.as_ptr(),
+            xi.len(),
+            eta.as_ptr(),
+            eta.len(),
+            a,
+            b,
+            c,
+            affine.as_mut_ptr(),
+            affine.len(),
+        )
+    }
+}
+
+pub fn count_affine_inliers(
+    [px, py, xi, eta]: Rows,
+    affine: &[f64],
+    threshold: f64,
+    inliers: &mut u64,
+) -> u32 {
+    unsafe {
+        moorspindle_count_affine_inliers(
+            px.as_ptr(),
+            px.len(),
+            py.as_ptr(),
+            py.len(),
+            xi.as_ptr(),
+            xi.len(),
+            eta.as_ptr(),
+            eta.len(),
+            affine.as_ptr(),
+            affine.len(),
+            threshold,
+            inliers,
+        )
+    }
+}
+
+pub fn verify_pairs([px, py, xi, eta]: Rows, score: &mut u64) -> u32 {
+    unsafe {
+        moorspindle_verify_pairs(
+            px.as_ptr(),
+            px.len(),
+            py.as_ptr(),
+            py.len(),
+            xi.as_ptr(),
+            xi.len(),
+            eta.as_ptr(),
+            eta.len(),
+            score,
+        )
+    }
+}

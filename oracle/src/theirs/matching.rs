@@ -1,0 +1,201 @@
+//! hash_index.rs, aggregate.rs and verify.rs behind Moorspindle's signatures.
+
+use celestial_catalog::query::{ConeSearchResult, Quad, QuadStar, StarRecord};
+use celestial_solver::Row;
+use celestial_solver::detect::DetectedStar;
+use celestial_solver::match_field::{self, QuadMatch, StarPair};
+
+use super::{COUNT, DEGENERATE, LENGTHS, PLACE, ROOM, VALUE};
+use super::{Tested, is_finite, is_limit, is_position, is_snr, number, put, refuse};
+use crate::case::bits;
+use crate::ours::matching::{Pairs, Quads, Rows, Voters};
+
+const MOST_QUADS: usize = 12_000;
+const MOST_MATCHES: usize = 144_000_000;
+const MOST: usize = 100; // rows, detections, ids, results
+
+pub fn find_matches(image: Quads, catalogue: Quads, matches: &mut [u8], found: &mut u64) -> u32 {
+    number(|| {
+        let lists = [image.places.len(), image.hashes.len()];
+        let others = [catalogue.places.len(), catalogue.hashes.len()];
+        refuse(COUNT, lists.iter().chain(&others).any(|&length| length / 4 > MOST_QUADS))?;
+        refuse(LENGTHS, [lists, others].iter().any(|[a, b]| a != b || a % 4 != 0))?;
+        let all = match_field::find_matches(&quads_of(image), &quads_of(catalogue));
+        refuse(ROOM, matches.len() < 8 * all.len())?;
+        for (place, found) in matches.chunks_exact_mut(8).zip(&all) {
+            put(place, &eight(found));
+        }
+        *found = all.len() as u64;
+        Ok(())
+    })
+}
+
+pub fn quads_of(quads: Quads) -> Vec<Quad> {
+    let quad = |(places, hash): (&[u8], &[f64])| Quad {
+        star_indices: [0, 1, 2, 3].map(|i| usize::from(places[i])),
+        hash: [0, 1, 2, 3].map(|i| hash[i]),
+    };
+    quads.places.chunks_exact(4).zip(quads.hashes.chunks_exact(4)).map(quad).collect()
+}
+
+fn eight(found: &QuadMatch) -> [u8; 8] {
+    let [a, b] = [&found.image_quad, &found.catalog_quad].map(|quad| quad.star_indices);
+    [a[0], a[1], a[2], a[3], b[0], b[1], b[2], b[3]].map(|place| place as u8)
+}
+
+pub fn extract_pairs(matches: &[u8], voters: Voters, out: &mut Pairs, pairs: &mut u64) -> u32 {
+    number(|| {
+        test_voters(matches, voters)?;
+        let matches = matches_of(matches);
+        refuse(PLACE, names_missing(&matches, voters))?;
+        let found = in_order(&matches, voters);
+        refuse(ROOM, out.room() < found.len())?;
+        for (place, pair) in found.iter().enumerate() {
+            out.px_x[place] = pair.px_x;
+            out.px_y[place] = pair.px_y;
+            out.ra[place] = pair.ra_deg;
+            out.dec[place] = pair.dec_deg;
+            out.votes[place] = pair.votes as u32;
+            out.snr[place] = pair.snr;
+        }
+        *pairs = found.len() as u64;
+        Ok(())
+    })
+}
+
+impl Pairs {
+    /// How many pairs there is room for.
+    fn room(&self) -> usize {
+        let lengths = [&self.px_x, &self.px_y, &self.ra, &self.dec, &self.snr].map(Vec::len);
+        lengths.into_iter().fold(self.votes.len(), usize::min)
+    }
+}
+
+fn test_voters(matches: &[u8], v: Voters) -> Tested<()> {
+    let detections = [v.det_x, v.det_y, v.det_snr].map(<[f64]>::len);
+    let results = [v.result_ids.len(), v.result_ra.len(), v.result_dec.len()];
+    let ids = [v.image_ids.len(), v.catalogue_ids.len()];
+    let counts = detections.iter().chain(&results).chain(&ids);
+    refuse(COUNT, matches.len() / 8 > MOST_MATCHES || counts.into_iter().any(|&n| n > MOST))?;
+    let uneven = |[a, b, c]: [usize; 3]| a != b || a != c;
+    refuse(LENGTHS, matches.len() % 8 != 0 || uneven(detections) || uneven(results))?;
+    let positions = [v.det_x, v.det_y, v.result_ra, v.result_dec].concat();
+    let outside = positions.into_iter().any(|x| !is_position(x));
+    refuse(VALUE, outside || v.det_snr.iter().any(|&x| !is_snr(x)))
+}
+
+pub fn matches_of(matches: &[u8]) -> Vec<QuadMatch> {
+    let quad = |places: &[u8]| Quad {
+        star_indices: [0, 1, 2, 3].map(|i| usize::from(places[i])),
+        hash: [0.0; 4],
+    };
+    let found =
+        |eight: &[u8]| QuadMatch { image_quad: quad(&eight[..4]), catalog_quad: quad(&eight[4..]) };
+    matches.chunks_exact(8).map(found).collect()
+}
+
+/// A vote that counts names a detection that does not exist: there the Rust panics.
+fn names_missing(matches: &[QuadMatch], v: Voters) -> bool {
+    let mut votes = matches.iter().flat_map(|found| {
+        let places = found.image_quad.star_indices.into_iter();
+        places.zip(found.catalog_quad.star_indices)
+    });
+    votes.any(|(image, catalogue)| {
+        let id = v.catalogue_ids.get(catalogue);
+        let placed = id.is_some_and(|id| v.result_ids.contains(id));
+        placed && v.image_ids.get(image).is_some_and(|&id| id as usize >= v.det_x.len())
+    })
+}
+
+/// The Rust's pairs. It leaves those with as many votes in the order of a hash map; here they
+/// stand by the image id, which a second run tells, whose detections are marked by their place.
+fn in_order(matches: &[QuadMatch], v: Voters) -> Vec<StarPair> {
+    let mut found = asked(matches, v, |place| (v.det_x[place], v.det_y[place], v.det_snr[place]));
+    let mut marked = asked(matches, v, |place| (place as f64, 0.0, 0.0));
+    assert!(found.is_sorted_by_key(|pair| std::cmp::Reverse(pair.votes)));
+    marked.sort_by_key(|pair| (std::cmp::Reverse(pair.votes), pair.px_x as usize));
+    let ordered = marked.iter().map(|mark| {
+        let place = mark.px_x as usize;
+        let same = |pair: &StarPair| {
+            let numbers = [pair.px_x, pair.px_y, pair.snr, pair.ra_deg, pair.dec_deg].map(bits);
+            let mut wanted = [v.det_x[place], v.det_y[place], v.det_snr[place], 0.0, 0.0];
+            (wanted[3], wanted[4]) = (mark.ra_deg, mark.dec_deg);
+            pair.votes == mark.votes && numbers == wanted.map(bits)
+        };
+        found.swap_remove(found.iter().position(same).expect("both runs give the same pairs"))
+    });
+    let ordered = ordered.collect();
+    assert!(found.is_empty());
+    ordered
+}
+
+fn asked(
+    matches: &[QuadMatch],
+    v: Voters,
+    detection: impl Fn(usize) -> (f64, f64, f64),
+) -> Vec<StarPair> {
+    let detected: Vec<DetectedStar> =
+        (0..v.det_x.len()).map(detection).map(|(x, y, snr)| DetectedStar { x, y, snr }).collect();
+    let (image, catalogue, results) = voters_of(v);
+    match_field::extract_pairs(matches, &detected, &image, &catalogue, &results)
+}
+
+/// The image stars, the catalogue stars and the catalogue's results.
+pub fn voters_of(v: Voters) -> (Vec<QuadStar>, Vec<QuadStar>, Vec<ConeSearchResult>) {
+    let star = |source_id| QuadStar { source_id, x: 0.0, y: 0.0, mag: 0.0 };
+    let places = v.result_ra.iter().zip(v.result_dec);
+    let result = |(&source_id, (&ra_deg, &dec_deg))| ConeSearchResult {
+        star: StarRecord { source_id, mag: 0.0 },
+        ra_deg,
+        dec_deg,
+    };
+    (
+        v.image_ids.iter().map(|&id| star(i64::from(id))).collect(),
+        v.catalogue_ids.iter().map(|&id| star(id)).collect(),
+        v.result_ids.iter().zip(places).map(result).collect(),
+    )
+}
+
+pub fn fit_affine_3pt(rows: Rows, places: [u8; 3], affine: &mut [f64]) -> u32 {
+    number(|| {
+        let rows = rows_of(rows)?;
+        let [a, b, c] = places.map(usize::from);
+        refuse(PLACE, [a, b, c].into_iter().any(|place| place >= rows.len()))?;
+        refuse(ROOM, affine.len() < 6)?;
+        put(affine, &match_field::fit_affine_3pt(&rows, a, b, c).ok_or(DEGENERATE)?);
+        Ok(())
+    })
+}
+
+pub fn count_affine_inliers(rows: Rows, affine: &[f64], threshold: f64, inliers: &mut u64) -> u32 {
+    number(|| {
+        few_and_even(rows)?;
+        let affine: &[f64; 6] = affine.try_into().map_err(|_| LENGTHS)?;
+        let outside = affine.iter().any(|&x| !is_finite(x)) || !is_limit(threshold);
+        let rows = rows_of(rows)?;
+        refuse(VALUE, outside)?;
+        *inliers = match_field::count_affine_inliers(&rows, affine, threshold) as u64;
+        Ok(())
+    })
+}
+
+pub fn verify_pairs(rows: Rows, score: &mut u64) -> u32 {
+    number(|| {
+        *score = match_field::verify_pairs(&rows_of(rows)?) as u64;
+        Ok(())
+    })
+}
+
+fn few_and_even(rows: Rows) -> Tested<()> {
+    let [px, py, xi, eta] = rows.map(<[f64]>::len);
+    refuse(COUNT, [px, py, xi, eta].into_iter().any(|n| n > MOST))?;
+    refuse(LENGTHS, py != px || xi != px || eta != px)
+}
+
+/// The rows of four lists, which must be positions and as many.
+fn rows_of(rows: Rows) -> Tested<Vec<Row>> {
+    few_and_even(rows)?;
+    refuse(VALUE, rows.into_iter().flatten().any(|&x| !is_position(x)))?;
+    let [px, py, xi, eta] = rows;
+    Ok((0..px.len()).map(|i| (px[i], py[i], xi[i], eta[i])).collect())
+}
