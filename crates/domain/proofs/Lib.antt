@@ -1,3 +1,4 @@
 pub mod Every
 pub mod Finite
 pub mod Passed
+pub mod Lent

@@ -8,10 +8,15 @@ ghost use Rattle.floats.specs.Power.{powerOf};
 ghost use Rattle.floats.specs.Root.{rootOf};
 ghost use Rattle.domain.specs.Answers.{answerNumber, lentAfter, numberAfter};
 ghost use Rattle.quad_key.specs.Key.{keyOf, neighbourKeys, keysAnswer};
+ghost use Rattle.rows.specs.Rows.{rows};
 ghost use Rattle.quad.specs.Quads.{quadsAnswer, quadPlaces, quadHashes};
 ghost use Rattle.quad_face.specs.Face.{spineFace, spineWritten, star, orientFace, orientWritten, normalFace};
 ghost use Rattle.quad_face.specs.Face.{hashWritten, placesWritten, startFace, startWritten, stepPlaces, stepBytes, stepGiven};
 ghost use Rattle.quad_face.specs.Face.{stepFrom, nextFace, quadsCount, quadsFace, hashFrom};
+ghost use Rattle.hash_index.specs.Matches.{matchesOf};
+ghost use Rattle.aggregate.specs.Extract.{given, room, pairXs, pairYs, pairRas, pairDecs, pairVotes, pairSnrs};
+ghost use Rattle.matching_face.specs.Face.{matchesFace, matchesCount, pairsFace, pairsCount};
+ghost use Rattle.verify_face.specs.Face.{affineFace, affineWritten, inliersFace, inliersCount, scoreFace, scoreCount};
 
 // ---- floats
 
@@ -190,4 +195,181 @@ pub extern "C" fn moorspindle_discrete_hash_key_neighbors(
         (now (keys .entry)) ⌝ }
 {
     quad_face::discrete_hash_key_neighbors(h0, h1, h2, h3, keys)
+}
+
+// ---- matches, votes, affines
+
+#[no_mangle]
+pub extern "C" fn moorspindle_find_matches(
+    places: &[u8],
+    hashes: &[f64],
+    catalogue: &[u8],
+    others: &[f64],
+    matches: &mut [u8],
+    found: &mut u64,
+) -> u32
+    ensures number { λ r. ⌜ r ≡ answerNumber
+        (matchesFace (now (places .entry)) (now (hashes .entry)) (now (catalogue .entry)) (now (others .entry)) (length (now (matches .entry)))) ⌝ }
+    ensures matches { λ r. ⌜ now (matches .exit) ≡ lentAfter
+        (matchesFace (now (places .entry)) (now (hashes .entry)) (now (catalogue .entry)) (now (others .entry)) (length (now (matches .entry))))
+        (matchesOf (now (places .entry)) (now (hashes .entry)) (now (catalogue .entry)) (now (others .entry)))
+        (now (matches .entry)) ⌝ }
+    ensures found { λ r. ⌜ now (found .exit) ≡ numberAfter
+        (matchesFace (now (places .entry)) (now (hashes .entry)) (now (catalogue .entry)) (now (others .entry)) (length (now (matches .entry))))
+        (matchesCount (now (places .entry)) (now (hashes .entry)) (now (catalogue .entry)) (now (others .entry)))
+        (now (found .entry)) ⌝ }
+{
+    matching_face::find_matches(places, hashes, catalogue, others, matches, found)
+}
+
+#[no_mangle]
+pub extern "C" fn moorspindle_extract_pairs(
+    matches: &[u8],
+    xs: &[f64],
+    ys: &[f64],
+    snrs: &[f64],
+    images: &[u32],
+    catalogue: &[i64],
+    results: &[i64],
+    ras: &[f64],
+    decs: &[f64],
+    px: &mut [f64],
+    py: &mut [f64],
+    ra: &mut [f64],
+    dec: &mut [f64],
+    votes: &mut [u32],
+    snr: &mut [f64],
+    pairs: &mut u64,
+) -> u32
+    ensures number { λ r. ⌜ r ≡ answerNumber (pairsFace
+        (given (now (matches .entry)) (now (xs .entry)) (now (ys .entry)) (now (snrs .entry)) (now (images .entry)) (now (catalogue .entry))
+        (now (results .entry)) (now (ras .entry)) (now (decs .entry)))
+        (room (length (now (px .entry))) (length (now (py .entry))) (length (now (ra .entry))) (length (now (dec .entry))) (length (now (votes .entry))) (length (now (snr .entry))))) ⌝ }
+    ensures px { λ r. ⌜ now (px .exit) ≡ lentAfter (pairsFace
+        (given (now (matches .entry)) (now (xs .entry)) (now (ys .entry)) (now (snrs .entry)) (now (images .entry)) (now (catalogue .entry))
+        (now (results .entry)) (now (ras .entry)) (now (decs .entry)))
+        (room (length (now (px .entry))) (length (now (py .entry))) (length (now (ra .entry))) (length (now (dec .entry))) (length (now (votes .entry))) (length (now (snr .entry)))))
+        (pairXs (given (now (matches .entry)) (now (xs .entry)) (now (ys .entry)) (now (snrs .entry)) (now (images .entry)) (now (catalogue .entry))
+        (now (results .entry)) (now (ras .entry)) (now (decs .entry))))
+        (now (px .entry)) ⌝ }
+    ensures py { λ r. ⌜ now (py .exit) ≡ lentAfter (pairsFace
+        (given (now (matches .entry)) (now (xs .entry)) (now (ys .entry)) (now (snrs .entry)) (now (images .entry)) (now (catalogue .entry))
+        (now (results .entry)) (now (ras .entry)) (now (decs .entry)))
+        (room (length (now (px .entry))) (length (now (py .entry))) (length (now (ra .entry))) (length (now (dec .entry))) (length (now (votes .entry))) (length (now (snr .entry)))))
+        (pairYs (given (now (matches .entry)) (now (xs .entry)) (now (ys .entry)) (now (snrs .entry)) (now (images .entry)) (now (catalogue .entry))
+        (now (results .entry)) (now (ras .entry)) (now (decs .entry))))
+        (now (py .entry)) ⌝ }
+    ensures ra { λ r. ⌜ now (ra .exit) ≡ lentAfter (pairsFace
+        (given (now (matches .entry)) (now (xs .entry)) (now (ys .entry)) (now (snrs .entry)) (now (images .entry)) (now (catalogue .entry))
+        (now (results .entry)) (now (ras .entry)) (now (decs .entry)))
+        (room (length (now (px .entry))) (length (now (py .entry))) (length (now (ra .entry))) (length (now (dec .entry))) (length (now (votes .entry))) (length (now (snr .entry)))))
+        (pairRas (given (now (matches .entry)) (now (xs .entry)) (now (ys .entry)) (now (snrs .entry)) (now (images .entry)) (now (catalogue .entry))
+        (now (results .entry)) (now (ras .entry)) (now (decs .entry))))
+        (now (ra .entry)) ⌝ }
+    ensures dec { λ r. ⌜ now (dec .exit) ≡ lentAfter (pairsFace
+        (given (now (matches .entry)) (now (xs .entry)) (now (ys .entry)) (now (snrs .entry)) (now (images .entry)) (now (catalogue .entry))
+        (now (results .entry)) (now (ras .entry)) (now (decs .entry)))
+        (room (length (now (px .entry))) (length (now (py .entry))) (length (now (ra .entry))) (length (now (dec .entry))) (length (now (votes .entry))) (length (now (snr .entry)))))
+        (pairDecs (given (now (matches .entry)) (now (xs .entry)) (now (ys .entry)) (now (snrs .entry)) (now (images .entry)) (now (catalogue .entry))
+        (now (results .entry)) (now (ras .entry)) (now (decs .entry))))
+        (now (dec .entry)) ⌝ }
+    ensures votes { λ r. ⌜ now (votes .exit) ≡ lentAfter (pairsFace
+        (given (now (matches .entry)) (now (xs .entry)) (now (ys .entry)) (now (snrs .entry)) (now (images .entry)) (now (catalogue .entry))
+        (now (results .entry)) (now (ras .entry)) (now (decs .entry)))
+        (room (length (now (px .entry))) (length (now (py .entry))) (length (now (ra .entry))) (length (now (dec .entry))) (length (now (votes .entry))) (length (now (snr .entry)))))
+        (pairVotes (given (now (matches .entry)) (now (xs .entry)) (now (ys .entry)) (now (snrs .entry)) (now (images .entry)) (now (catalogue .entry))
+        (now (results .entry)) (now (ras .entry)) (now (decs .entry))))
+        (now (votes .entry)) ⌝ }
+    ensures snr { λ r. ⌜ now (snr .exit) ≡ lentAfter (pairsFace
+        (given (now (matches .entry)) (now (xs .entry)) (now (ys .entry)) (now (snrs .entry)) (now (images .entry)) (now (catalogue .entry))
+        (now (results .entry)) (now (ras .entry)) (now (decs .entry)))
+        (room (length (now (px .entry))) (length (now (py .entry))) (length (now (ra .entry))) (length (now (dec .entry))) (length (now (votes .entry))) (length (now (snr .entry)))))
+        (pairSnrs (given (now (matches .entry)) (now (xs .entry)) (now (ys .entry)) (now (snrs .entry)) (now (images .entry)) (now (catalogue .entry))
+        (now (results .entry)) (now (ras .entry)) (now (decs .entry))))
+        (now (snr .entry)) ⌝ }
+    ensures pairs { λ r. ⌜ now (pairs .exit) ≡ numberAfter (pairsFace
+        (given (now (matches .entry)) (now (xs .entry)) (now (ys .entry)) (now (snrs .entry)) (now (images .entry)) (now (catalogue .entry))
+        (now (results .entry)) (now (ras .entry)) (now (decs .entry)))
+        (room (length (now (px .entry))) (length (now (py .entry))) (length (now (ra .entry))) (length (now (dec .entry))) (length (now (votes .entry))) (length (now (snr .entry)))))
+        (pairsCount
+        (given (now (matches .entry)) (now (xs .entry)) (now (ys .entry)) (now (snrs .entry)) (now (images .entry)) (now (catalogue .entry))
+        (now (results .entry)) (now (ras .entry)) (now (decs .entry))))
+        (now (pairs .entry)) ⌝ }
+{
+    matching_face::extract_pairs(
+        matches,
+        xs,
+        ys,
+        snrs,
+        images,
+        catalogue,
+        results,
+        ras,
+        decs,
+        px,
+        py,
+        ra,
+        dec,
+        votes,
+        snr,
+        pairs,
+    )
+}
+
+#[no_mangle]
+pub extern "C" fn moorspindle_fit_affine_3pt(
+    px: &[f64],
+    py: &[f64],
+    xi: &[f64],
+    eta: &[f64],
+    a: u8,
+    b: u8,
+    c: u8,
+    affine: &mut [f64],
+) -> u32
+    ensures number { λ r. ⌜ r ≡ answerNumber
+        (affineFace (rows (now (px .entry)) (now (py .entry)) (now (xi .entry)) (now (eta .entry))) a b c (length (now (affine .entry)))) ⌝ }
+    ensures affine { λ r. ⌜ now (affine .exit) ≡ lentAfter
+        (affineFace (rows (now (px .entry)) (now (py .entry)) (now (xi .entry)) (now (eta .entry))) a b c (length (now (affine .entry))))
+        (affineWritten (rows (now (px .entry)) (now (py .entry)) (now (xi .entry)) (now (eta .entry))) a b c)
+        (now (affine .entry)) ⌝ }
+{
+    verify_face::fit_affine_3pt(px, py, xi, eta, a, b, c, affine)
+}
+
+#[no_mangle]
+pub extern "C" fn moorspindle_count_affine_inliers(
+    px: &[f64],
+    py: &[f64],
+    xi: &[f64],
+    eta: &[f64],
+    affine: &[f64],
+    threshold: f64,
+    inliers: &mut u64,
+) -> u32
+    ensures number { λ r. ⌜ r ≡ answerNumber
+        (inliersFace (rows (now (px .entry)) (now (py .entry)) (now (xi .entry)) (now (eta .entry))) (now (affine .entry)) threshold) ⌝ }
+    ensures inliers { λ r. ⌜ now (inliers .exit) ≡ numberAfter
+        (inliersFace (rows (now (px .entry)) (now (py .entry)) (now (xi .entry)) (now (eta .entry))) (now (affine .entry)) threshold)
+        (inliersCount (rows (now (px .entry)) (now (py .entry)) (now (xi .entry)) (now (eta .entry))) (now (affine .entry)) threshold)
+        (now (inliers .entry)) ⌝ }
+{
+    verify_face::count_affine_inliers(px, py, xi, eta, affine, threshold, inliers)
+}
+
+#[no_mangle]
+pub extern "C" fn moorspindle_verify_pairs(
+    px: &[f64],
+    py: &[f64],
+    xi: &[f64],
+    eta: &[f64],
+    score: &mut u64,
+) -> u32
+    ensures number { λ r. ⌜ r ≡ answerNumber (scoreFace (rows (now (px .entry)) (now (py .entry)) (now (xi .entry)) (now (eta .entry)))) ⌝ }
+    ensures score { λ r. ⌜ now (score .exit) ≡ numberAfter
+        (scoreFace (rows (now (px .entry)) (now (py .entry)) (now (xi .entry)) (now (eta .entry))))
+        (scoreCount (rows (now (px .entry)) (now (py .entry)) (now (xi .entry)) (now (eta .entry))))
+        (now (score .entry)) ⌝ }
+{
+    verify_face::verify_pairs(px, py, xi, eta, score)
 }

@@ -1,7 +1,7 @@
 -- `quad_face::normalize_quad_ordered` meets its contract: a refusal keeps both lists, and a quad goes where there is room. Assumes nothing.
 use Rattle.quad_face.specs.Face.{quadRoom}
 use lib.ListN.{length}
-use Rattle.quad_face.proofs.Laws.{stays}
+use Rattle.domain.proofs.Lent.{stays}
 use Rattle.domain.specs.Answers.{answerNumber, inTurn}
 use mathlib.Core.Path.{ap, _∙_}
 use borrow.Author.Needs.{needs}

@@ -1,5 +1,5 @@
 -- `quad_face::put_four` meets its contract: a list without room stays, and four stores from the front are what is written. Assumes nothing.
-use Rattle.quad_face.proofs.Laws.{front}
+use Rattle.domain.proofs.Lent.{front}
 use mathlib.Core.List.{[], _∷_}
 use lib.ListN.{length-set}
 use native.Mathlib.Omega.{arith}

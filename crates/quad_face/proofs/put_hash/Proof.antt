@@ -1,5 +1,5 @@
 -- `quad_face::put_hash` meets its contract: four stores from the front are what is written. Assumes nothing.
-use Rattle.quad_face.proofs.Laws.{front}
+use Rattle.domain.proofs.Lent.{front}
 use Rattle.quad_face.specs.Face.{hashNumbers}
 use lib.ListN.{length-set}
 use native.Mathlib.Omega.{arith}

@@ -1,5 +1,5 @@
 -- `quad_face::put_two` meets its contract: a list without room stays, and two stores from the front are what is written. Assumes nothing.
-use Rattle.quad_face.proofs.Laws.{front}
+use Rattle.domain.proofs.Lent.{front}
 use mathlib.Core.List.{[], _∷_}
 use mathlib.Core.Path.{refl}
 use borrow.Author.Tests.{lt-ltb, le-ltb}

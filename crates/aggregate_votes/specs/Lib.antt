@@ -1,0 +1,3 @@
+pub mod Votes
+pub mod Table
+pub mod Examples

@@ -1,0 +1,4 @@
+pub mod Sums
+pub mod Numbered
+pub mod Call
+pub mod Pairs

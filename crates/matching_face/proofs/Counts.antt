@@ -1,0 +1,44 @@
+-- A count that is found is that of the result. Assumes nothing.
+use mathlib.Core.Path.{_≡_}
+use mathlib.Core.Bool.{Bool, true, false, cond}
+use mathlib.Core.List.{List}
+use Prim.Native.Nat.{ℕ, _/_}
+use native.Mathlib.Omega.{arith}
+use lib.Dec.{ltb}
+use lib.ListN.{length}
+use lib.Ieee.{Float}
+use Rattle.domain.specs.Answers.{first}
+use Rattle.domain.specs.declared.Refusal.the-variants as refusal
+use Rattle.domain.specs.declared.Answer.{Answer}
+use Rattle.domain.specs.declared.Answer.the-variants as answer
+use Rattle.hash_index.specs.declared.Matches.{Matches}
+use Rattle.hash_index.specs.declared.Matches.the-variants as matches
+use Rattle.hash_index.specs.Matches.{answerAfter, matchesOf, matchesAnswer}
+use Rattle.hash_index.specs.Matches as search
+use Rattle.aggregate.specs.declared.Pairs.the-variants as pairs
+use Rattle.aggregate.specs.Extract.{Given, Room, inputAnswer, placeAnswer, roomAnswer, found, foundAfter, pairsAnswer}
+
+in-room : (b : Bool) (m n : ℕ) → cond b (matches.Refused refusal.Room) (matches.Found m) ≡ matches.Found n → n ≡ m
+in-room true m n e = let z : _≡_ {A = ℕ} 0 1 = cc in absurd (omega arith)
+in-room false m n e = cc
+
+after : (a : Answer) (found : Matches) (m n : ℕ) → (found ≡ matches.Found n → n ≡ m) → answerAfter a found ≡ matches.Found n → n ≡ m
+after answer.Done found m n f e = f e
+after (answer.Refused why) found m n f e = let z : _≡_ {A = ℕ} 0 1 = cc in absurd (omega arith)
+
+-- the matches that are found
+pub matches-counted : (places : List ℕ) (hashes : List Float) (catalogue : List ℕ) (others : List Float) (room n : ℕ)
+    → matchesAnswer places hashes catalogue others room ≡ matches.Found n → n ≡ length (matchesOf places hashes catalogue others) / 8
+unfolding matchesAnswer search.roomAnswer
+matches-counted places hashes catalogue others room n e =
+    let m = length (matchesOf places hashes catalogue others) in
+    after (search.inputAnswer (length places) (length hashes) (length catalogue) (length others)) (search.roomAnswer m room) (m / 8) n (in-room (ltb room m) (m / 8) n) e
+
+after-tests : (a : Answer) (m n : ℕ) → foundAfter a m ≡ pairs.Found n → n ≡ m
+after-tests answer.Done m n e = cc
+after-tests (answer.Refused why) m n e = let z : _≡_ {A = ℕ} 0 1 = cc in absurd (omega arith)
+
+-- the pairs that are found
+pub pairs-counted : (g : Given) (o : Room) (n : ℕ) → pairsAnswer g o ≡ pairs.Found n → n ≡ length (found g)
+unfolding pairsAnswer
+pairs-counted g o n e = after-tests (first (inputAnswer g) (first (placeAnswer g) (roomAnswer (length (found g)) o))) (length (found g)) n e
