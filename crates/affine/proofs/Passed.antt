@@ -1,13 +1,13 @@
 -- What rows are like that passed their tests. Assumes nothing.
 use mathlib.Core.Path.{_≡_}
 use mathlib.Core.Bool.{not, _&&_, and-eq-true-iff}
-use Prim.Native.Nat.{ℕ, _≤_}
+use Prim.Native.Nat.{_≤_}
 use lib.Dec.{leb, eqb}
 use lib.ListN.{length}
 use borrow.Author.Tests.{leb-true, eqb-true, not-false}
 use Rattle.domain.proofs.Passed.{passed}
 use Rattle.domain.specs.declared.Answer.the-variants as answer
-use Rattle.rows.specs.Rows.{Rows, count, fewRows, evenRows, positionRows}
+use Rattle.rows.specs.Rows.{Rows, count, fewRows, evenRows}
 use Rattle.affine.specs.Affine.{rowsAnswer}
 
 -- at most a hundred, in four lists of one length

@@ -14,6 +14,7 @@ use Rattle.affine.specs.declared.AffineFit.{AffineFit}
 use Rattle.affine.specs.declared.AffineFit.the-variants as fit
 use Rattle.affine.specs.declared.Inverse.{Inverse}
 
+-- The four operations, each rounded once; they bind, and go from left to right, as in the Rust.
 infixl 20 _⊕_
 infixl 20 _⊖_
 infixl 30 _⊗_
@@ -90,10 +91,11 @@ determinantOf m = m .a11 ⊗ m .a22 ⊖ m .a12 ⊗ m .a21
 unfoldable pub inverseOf : Affine → Float → Inverse
 inverseOf m det = record { i00 = m .a22 ⊘ det; i01 = neg (m .a12) ⊘ det; i10 = neg (m .a21) ⊘ det; i11 = m .a11 ⊘ det }
 
--- What an affine misses a row's xi by, and its eta.
+-- What an affine misses a row's xi by.
 unfoldable pub missedXi : Affine → Row → Float
 missedXi m row = row .xi ⊖ (m .a11 ⊗ row .px ⊕ m .a12 ⊗ row .py ⊕ m .tx)
 
+-- What it misses its eta by.
 unfoldable pub missedEta : Affine → Row → Float
 missedEta m row = row .eta ⊖ (m .a21 ⊗ row .px ⊕ m .a22 ⊗ row .py ⊕ m .ty)
 

@@ -82,6 +82,15 @@ fn after_number(s: &[u8], at: usize) -> usize {
     q
 }
 
+// The place of the member that is k after the one at a place, in a list of numbers.
+pub fn member(s: &[u8], at: usize, k: usize) -> usize {
+    let mut p = at;
+    for _ in 0..k {
+        p = after_number(s, p);
+    }
+    p
+}
+
 pub fn byte_at(s: &[u8], at: usize) -> u8 {
     (number_at(s, at) % 256) as u8
 }

@@ -1,6 +1,5 @@
 -- What the code of a search holds, against what `Best` says that it holds: the laws that any search's proofs cite. Assumes nothing.
-use mathlib.Core.Path.{_≡_, refl, sym, ap, _∙_}
-use mathlib.Core.List.{List, [], _∷_, _++_}
+use mathlib.Core.Path.{_≡_, refl}
 use mathlib.Core.Option.{Option, some, none}
 use Prim.Native.Nat.{ℕ, _+_, _≤_, _<_, max}
 use native.Mathlib.Numerals.{add-one}
@@ -8,8 +7,8 @@ use native.Mathlib.Omega.{arith}
 use borrow.Author.Tests.{le-leb, lt-leb, lt-ltb, le-ltb}
 use Rattle.draw.specs.Best.{count, improved, keepIf, keep, step, run, best, noRefit}
 use Rattle.draw.specs.Draw.{Triple, threeWords, tripleAfter, wordAfter, triples}
-use Rattle.draw.proofs.Best.{run-snoc, keep-greater}
-use Rattle.draw.proofs.Drawing.{word-suc, triples-suc}
+use Rattle.draw.proofs.Best.{run-snoc, keep-greater, more-trials}
+use Rattle.draw.proofs.Drawing.{word-suc, triples-suc, triples-add}
 
 module _ {Model Trial : Type 0} (fit : Trial → Option Model) (refit : Model → Option Model) (agree : Model → ℕ) where
   -- the code holds `have`, with the number n: that is o, and its number of rows
@@ -73,6 +72,12 @@ module _ {Model : Type 0} (fit : Triple → Option Model) (refit : Model → Opt
         word = rw (add-one, word-suc, ← b .word) e;
         holds = rw (add-one, triples-suc, run-snoc, ← b .word, ← b .holds .model) d;
       }
+
+  -- more trials: no fewer rows
+  pub more-drawn : (trials more : ℕ)
+      → count fit refit agree (best fit refit agree (triples n trials start)) ≤ count fit refit agree (best fit refit agree (triples n (trials + more) start))
+  more-drawn trials more =
+      rw (triples-add n trials more start) (more-trials fit refit agree (triples n trials start) (triples n more (wordAfter trials start)))
 
 -- ---- such a run without a refit, of which the code holds the number alone
 module _ {Model : Type 0} (fit : Triple → Option Model) (agree : Model → ℕ) (n start : ℕ) where

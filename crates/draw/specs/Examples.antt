@@ -1,7 +1,7 @@
 -- Worked examples, each by computation.
 use mathlib.Core.Path.{_≡_, refl}
 use mathlib.Core.List.{[], _∷_}
-use mathlib.Core.Option.{Option, some, none}
+use mathlib.Core.Option.{some, none}
 use Prim.Native.Nat.{ℕ}
 use Rattle.draw.specs.Draw.{nextWord, tripleAfter, wordAfter, triples, unlessRepeated}
 

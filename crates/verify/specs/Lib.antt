@@ -1,1 +1,2 @@
 pub mod Score
+pub mod Examples

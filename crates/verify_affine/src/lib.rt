@@ -111,14 +111,10 @@ pub fn count_affine_inliers(
         Answer::Refused(why) => Inliers::Refused(why),
         Answer::Done => match check_values(affine, threshold) {
             Answer::Refused(why) => Inliers::Refused(why),
-            Answer::Done => Inliers::Counted(affine::count_agreeing(
-                px,
-                py,
-                xi,
-                eta,
-                affine,
-                threshold,
-            )),
+            Answer::Done => {
+                let count = affine::count_agreeing(px, py, xi, eta, affine, threshold);
+                Inliers::Counted(count)
+            }
         },
     }
 }

@@ -241,6 +241,7 @@ const EXTRACT_PAIRS: Call = Call {
                 cases.push(pairs_case(&lists, rooms));
             }
         }
+        let mut cases: Vec<Case> = cases.into_iter().step_by(every.div_ceil(8) * 2 - 1).collect();
         let bad = bad_ballots();
         let bad = bad.iter().step_by(every.div_ceil(12));
         cases.extend(bad.map(|lists| pairs_case(lists, [4; 6])));
@@ -558,7 +559,7 @@ const FIT_AFFINE_3PT: Call = Call {
         }
         let refused = rows::refused();
         cases.extend(refused.iter().map(|rows| affine_case(rows, [0, 1, 2], 6)));
-        let worse = refused.iter().step_by(every.div_ceil(5));
+        let worse = refused.iter().step_by(every);
         cases.extend(worse.map(|rows| affine_case(rows, [0, 1, 200], 5)));
         cases
     },
@@ -609,7 +610,7 @@ const COUNT_AFFINE_INLIERS: Call = Call {
                 cases.extend(limits.map(|limit| inliers_case(&rows, &affine, limit)));
             }
         }
-        let mut cases: Vec<Case> = cases.into_iter().step_by(every.div_ceil(2)).collect();
+        let mut cases: Vec<Case> = cases.into_iter().step_by(every.div_ceil(2) * 2 - 1).collect();
         // an error of exactly the limit, and of the floats next to it
         let steps = [3.0, 4.0, 5.0, 10.0, 0.1];
         for step in steps.into_iter().flat_map(edges::around) {
