@@ -48,4 +48,33 @@ uint32_t moorspindle_neighbor_quads(const double *xs, size_t, const double *ys, 
 uint64_t moorspindle_discrete_hash_key(double h0, double h1, double h2, double h3);
 uint32_t moorspindle_discrete_hash_key_neighbors(double h0, double h1, double h2, double h3,
         uint64_t *keys, size_t);                                     /* 81 */
+
+/* ---- hash_index.rs: find_matches answers 1 2 7. A match is where the catalogue quad's key is
+   one of the image quad's 81; they stand by image quad, then key number, then catalogue quad. */
+uint32_t moorspindle_find_matches(
+        const uint8_t *image_places, size_t, const double *image_hashes, size_t,
+        const uint8_t *catalogue_places, size_t, const double *catalogue_hashes, size_t,
+        uint8_t *matches, size_t, uint64_t *found);                  /* 8 for each match */
+
+/* ---- aggregate.rs: extract_pairs answers 1 2 3 4 7. image_ids are detection ids, one for each
+   image star; results are the catalogue results: id, right ascension, declination. Pairs stand
+   by votes falling, then by detection id. */
+uint32_t moorspindle_extract_pairs(const uint8_t *matches, size_t,
+        const double *det_x, size_t, const double *det_y, size_t, const double *det_snr, size_t,
+        const uint32_t *image_ids, size_t, const int64_t *catalogue_ids, size_t,
+        const int64_t *result_ids, size_t, const double *result_ra, size_t, const double *result_dec, size_t,
+        double *px_x, size_t, double *px_y, size_t, double *ra, size_t, double *dec, size_t,
+        uint32_t *votes, size_t, double *snr, size_t, uint64_t *pairs);
+
+/* ---- verify.rs: fit_affine_3pt answers 1 2 3 4 7 8, count_affine_inliers 1 2 3, verify_pairs
+   1 2 3. The score is the most rows that agree, within 10 pixels, with the affine of a drawn
+   triple; fewer than three rows have 0. */
+uint32_t moorspindle_fit_affine_3pt(const double *px, size_t, const double *py, size_t,
+        const double *xi, size_t, const double *eta, size_t,
+        uint8_t a, uint8_t b, uint8_t c, double *affine, size_t);    /* 6 */
+uint32_t moorspindle_count_affine_inliers(const double *px, size_t, const double *py, size_t,
+        const double *xi, size_t, const double *eta, size_t,
+        const double *affine, size_t, double threshold, uint64_t *inliers);
+uint32_t moorspindle_verify_pairs(const double *px, size_t, const double *py, size_t,
+        const double *xi, size_t, const double *eta, size_t, uint64_t *score);
 #endif

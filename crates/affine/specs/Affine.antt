@@ -1,13 +1,11 @@
 -- The affine of three rows, and the rows that agree with one. Each operation is rounded once, in the Rust's order. Definitions only.
-use mathlib.Core.Bool.{Bool, cond, not}
+use mathlib.Core.Bool.{Bool, cond}
 use Prim.Native.Nat.{ℕ, zero, suc, _+_}
 use lib.Ieee.{Float, binary64, ofBits, add, sub, mul, div, neg, lt}
 use Rattle.floats.specs.Magnitude.{magnitudeOf}
 use Rattle.domain.specs.Answers.{numberOf}
 use Rattle.domain.specs.declared.Refusal.the-variants as refusal
-use Rattle.domain.specs.declared.Answer.{Answer}
-use Rattle.domain.specs.declared.Answer.the-variants as answer
-use Rattle.rows.specs.Rows.{Rows, rowAt, count, fewRows, evenRows, positionRows}
+use Rattle.rows.specs.Rows.{Rows, rowAt, count}
 use Rattle.rows.specs.declared.Row.{Row}
 use Rattle.affine.specs.declared.Affine.{Affine}
 use Rattle.affine.specs.declared.AffineFit.{AffineFit}
@@ -30,14 +28,6 @@ x ⊗ y = mul binary64 x y
 
 abbrev _⊘_ : Float → Float → Float
 x ⊘ y = div binary64 x y
-
--- What the tests of the rows come to: number 1, 2 or 3, or done.
-unfoldable pub rowsAnswer : Rows → Answer
-rowsAnswer r =
-    cond (not (fewRows r)) (answer.Refused refusal.Count)
-    (cond (not (evenRows r)) (answer.Refused refusal.Lengths)
-    (cond (not (positionRows r)) (answer.Refused refusal.Value)
-    answer.Done))
 
 -- 1e-20, the least determinant of three rows that are fitted.
 abbrev pub leastDeterminant : Float

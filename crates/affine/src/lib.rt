@@ -1,5 +1,4 @@
 // The affine of three rows, and how many rows agree with an affine.
-use domain::Answer;
 use domain::Refusal;
 use rows::Row;
 ghost use mathlib.Core.Path.{_≡_};
@@ -7,7 +6,6 @@ ghost use mathlib.Core.Bool.{cond};
 ghost use lib.ListN.{length};
 ghost use Rattle.rows.specs.Rows.{rows};
 ghost use Rattle.affine.specs.Affine.{areaOf, affineOf, fitOf, fitNumber, determinantOf, inverseOf, isNear, nearRows, agreeing};
-ghost use Rattle.affine.specs.Affine.{rowsAnswer};
 
 // From a pixel to the tangent plane: xi = a11 x + a12 y + tx, eta = a21 x + a22 y + ty.
 pub struct Affine {
@@ -56,22 +54,6 @@ struct Inverse {
     i01: f64,
     i10: f64,
     i11: f64,
-}
-
-// Whether the lists are rows: the first of refusals 1, 2 and 3, or done.
-pub fn check_rows(px: &[f64], py: &[f64], xi: &[f64], eta: &[f64]) -> Answer
-    ensures { λ r. ⌜ r ≡ rowsAnswer (rows (now (px .entry)) (now (py .entry)) (now (xi .entry)) (now (eta .entry))) ⌝ }
-{
-    if !rows::few_rows(px, py, xi, eta) {
-        return Answer::Refused(Refusal::Count);
-    }
-    if !rows::even_rows(px, py, xi, eta) {
-        return Answer::Refused(Refusal::Lengths);
-    }
-    if !rows::position_rows(px, py, xi, eta) {
-        return Answer::Refused(Refusal::Value);
-    }
-    Answer::Done
 }
 
 // The determinant of three rows' pixels.

@@ -1,2 +1,2 @@
-pub mod Outputs
 pub mod Answer
+pub mod Reorder

@@ -2,9 +2,9 @@
 use Prim.Native.Nat.{ℕ}
 use mathlib.Core.Path.{_≡_, refl}
 use mathlib.Core.Bool.{false}
-use mathlib.Core.List.{List, [], _∷_}
-use lib.IntN.{ℤ, pos}
-use lib.Ieee.{Float, fin, binary64, ofBits, neg, le, lt, eq}
+use mathlib.Core.List.{[], _∷_}
+use lib.IntN.{pos}
+use lib.Ieee.{Float, fin, ofBits, neg, le, lt, eq}
 use Rattle.domain.specs.Domain.{every}
 use Rattle.domain.specs.declared.Refusal.the-variants as refusal
 use Rattle.aggregate_votes.specs.Votes.{votesOf, counts, isFor, isMissing, votesAt}

@@ -1,3 +1,2 @@
 pub mod Extract
-pub mod Gather
 pub mod Examples

@@ -6,14 +6,14 @@ use mathlib.Core.List.{List, [], _∷_, _++_}
 use native.Mathlib.Nat.{add-zero, zero-add}
 use native.Mathlib.Numerals.{add-one}
 use native.Mathlib.Omega.{arith}
-use lib.Dec.{eqb, ltb, leb}
+use lib.Dec.{eqb, ltb}
 use lib.IntN.{ℤ, pos}
 use lib.ListN.{length, getD, set, replicate, length-set, length-replicate}
 use lib.Seq.{getD-set-same, getD-set-other}
-use borrow.Author.Tests.{eqb-true, eqb-false, eq-eqb, ne-eqb, ltb-true, ltb-false, lt-ltb, le-ltb}
-use Rattle.aggregate_votes.specs.Votes.{sameId, lastOf, Vote, votesIn, votesTo, votesOf, Ids, positionOf, detectionOf, catalogueOf, counts, isFor, countOf, votesFor, isMissing, missing, anyOf, isPosition, votesAt}
+use borrow.Author.Tests.{eqb-true, eqb-false, ltb-true, ltb-false, lt-ltb, le-ltb}
+use Rattle.aggregate_votes.specs.Votes.{sameId, lastOf, Vote, votesIn, votesTo, votesOf, Ids, positionOf, detectionOf, catalogueOf, counts, isFor, countOf, isMissing, missing, anyOf, isLast, votesAt}
 use Rattle.aggregate_votes.specs.Table.{columnOf, live, misses, oneMore, cellOf, castVote, castAll}
-use Rattle.aggregate_votes.proofs.Ids.{same-true, same-yes, last-le, last-is}
+use Rattle.aggregate_votes.proofs.Ids.{last-le, place-same, same-place}
 
 pub zeros-at : (n s : ℕ) → getD (replicate {A = ℕ} n 0) s 0 ≡ 0
 zeros-at zero s = refl
@@ -171,26 +171,26 @@ module _ (i : Ids) (cols : List ℕ) (fit : (j : ℕ) → getD cols j 0 ≡ colu
 
   -- a vote, seen in the cell of detection d and result r
   seen : (n d r : ℕ) (v : Vote) (table : List ℕ) → n ≤ 100 → d < n → r < 100 → length (i .results) ≤ 100 → length table ≡ 10000
-      → getD (castVote (i .images) cols n v table) (d * 100 + r) 0 ≡ getD table (d * 100 + r) 0 + cond (isPosition i r) (cond (isFor i d (getD (i .results) r (pos 0)) v) 1 0) 0
+      → getD (castVote (i .images) cols n v table) (d * 100 + r) 0 ≡ getD table (d * 100 + r) 0 + cond (isLast i r) (cond (isFor i d (getD (i .results) r (pos 0)) v) 1 0) 0
   unfolding castVote isFor
   seen n d r v table hn hd hr hl l =
       let c = catalogueOf i v in
       let o = getD (i .results) r (pos 0) in
       rw (live-is v)
-      (hit table (detectionOf i v) (getD cols (v .catalogue) 0) n d r hn hd hr l (counts i v) (ltb (detectionOf i v) n) (eqb (detectionOf i v) d) (sameId c o) (isPosition i r)
+      (hit table (detectionOf i v) (getD cols (v .catalogue) 0) n d r hn hd hr l (counts i v) (ltb (detectionOf i v) n) (eqb (detectionOf i v) d) (sameId c o) (isLast i r)
       (λ x. let e = column-is v x in let h = last-le (i .results) c (length (i .results)) in (omega arith, omega arith))
       (ltb-true (detectionOf i v) n) (ltb-false (detectionOf i v) n) (eqb-true (detectionOf i v) d) (eqb-false (detectionOf i v) d)
-      (λ x u w. column-is v x .0 ∙ ap (positionOf i) (same-true c o w) ∙ eqb-true (positionOf i o) (suc r) u)
-      (λ x e. let h = last-is (i .results) c (length (i .results)) r (sym (column-is v x .0) ∙ e) in (eq-eqb (positionOf i o) (suc r) (ap (positionOf i) h ∙ sym (column-is v x .0) ∙ e), same-yes c o (sym h))))
+      (λ x u w. column-is v x .0 ∙ place-same i c r u w)
+      (λ x e. same-place i c r (sym (column-is v x .0) ∙ e)))
 
   pub all-seen : (n d r : ℕ) (vs : List Vote) (table : List ℕ) → n ≤ 100 → d < n → r < 100 → length (i .results) ≤ 100 → length table ≡ 10000
       → getD (castAll (i .images) cols n vs table) (d * 100 + r) 0 ≡ getD table (d * 100 + r) 0 + votesAt i vs d r
   unfolding votesAt
-  all-seen n d r [] table hn hd hr hl l = none (isPosition i r) (getD table (d * 100 + r) 0)
+  all-seen n d r [] table hn hd hr hl l = none (isLast i r) (getD table (d * 100 + r) 0)
   all-seen n d r (v ∷ vs) table hn hd hr hl l =
       all-seen n d r vs (castVote (i .images) cols n v table) hn hd hr hl (cast-long (i .images) cols n v table ∙ l)
       ∙ rw (seen n d r v table hn hd hr hl l)
-      (go (isPosition i r) (getD table (d * 100 + r) 0) (cond (isFor i d (getD (i .results) r (pos 0)) v) 1 0) (countOf (isFor i d (getD (i .results) r (pos 0))) vs))
+      (go (isLast i r) (getD table (d * 100 + r) 0) (cond (isFor i d (getD (i .results) r (pos 0)) v) 1 0) (countOf (isFor i d (getD (i .results) r (pos 0))) vs))
     where
       go : (u : Bool) (k a b : ℕ) → (k + cond u a 0) + cond u b 0 ≡ k + cond u (a + b) 0
       go true k a b = omega arith

@@ -1,14 +1,13 @@
 -- Catalogue ids, and the last result with an id. Assumes nothing.
-use Prim.Native.Nat.{ℕ, zero, suc, _+_, _-_, _≤_, _<_}
+use Prim.Native.Nat.{ℕ, zero, suc, _≤_}
 use mathlib.Core.Path.{_≡_, refl, sym, _∙_, ap}
 use mathlib.Core.Bool.{Bool, true, false, cond, true≢false}
 use mathlib.Core.List.{List}
 use native.Mathlib.Omega.{arith}
-use lib.Dec.{ltb}
 use lib.IntN.{ℤ, pos, negsuc}
 use lib.ListN.{length, getD}
 use borrow.Author.Tests.{eqb-true, eq-eqb}
-use Rattle.aggregate_votes.specs.Votes.{sameId, lastOf}
+use Rattle.aggregate_votes.specs.Votes.{sameId, lastOf, Ids, positionOf, isLast}
 
 pub same-true : (a b : ℤ) → sameId a b ≡ true → a ≡ b
 same-true (pos a) (pos b) e = ap pos (eqb-true a b e)
@@ -47,3 +46,13 @@ last-is ids c (suc k) r h = go (sameId (getD ids k (pos 0)) c) (same-true (getD 
         → cond t (suc k) (lastOf ids c k) ≡ suc r → getD ids r (pos 0) ≡ c
     go true f g e = let u : r ≡ k = omega arith in rw u (f refl)
     go false f g e = g e
+
+-- the position of an id is the one result that is a position and has that id
+module _ (i : Ids) (c : ℤ) (r : ℕ) where
+  pub place-same : isLast i r ≡ true → sameId c (getD (i .results) r (pos 0)) ≡ true → positionOf i c ≡ suc r
+  place-same u w = ap (positionOf i) (same-true c (getD (i .results) r (pos 0)) w) ∙ eqb-true (positionOf i (getD (i .results) r (pos 0))) (suc r) u
+
+  pub same-place : positionOf i c ≡ suc r → (isLast i r ≡ true) × (sameId c (getD (i .results) r (pos 0)) ≡ true)
+  same-place e =
+      let h = last-is (i .results) c (length (i .results)) r e in
+      (eq-eqb (positionOf i (getD (i .results) r (pos 0))) (suc r) (ap (positionOf i) h ∙ e), same-yes c (getD (i .results) r (pos 0)) (sym h))

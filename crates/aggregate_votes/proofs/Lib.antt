@@ -1,2 +1,4 @@
 pub mod Ids
 pub mod Cells
+pub mod Total
+pub mod Reorder

@@ -3,7 +3,7 @@ use mathlib.Core.Path.{_≡_, refl}
 use mathlib.Core.Bool.{true, false}
 use mathlib.Core.List.{List, [], _∷_}
 use Prim.Native.Nat.{ℕ}
-use lib.IntN.{ℤ, pos, negsuc}
+use lib.IntN.{pos, negsuc}
 use Rattle.aggregate_votes.specs.Votes.{lastOf, Ids, ids, votesOf, counts, isFor, votesFor, isMissing, missing, votesAt}
 
 -- of a repeated id the last counts

@@ -1,6 +1,6 @@
 -- Votes: which count, and how many each pair of ids has. They are counted, so the order of the matches changes nothing. Definitions only.
 use Prim.Native.Nat.{ℕ, zero, suc, _+_, _*_, _/_}
-use mathlib.Core.Bool.{Bool, true, false, cond, _&&_, _||_}
+use mathlib.Core.Bool.{Bool, false, cond, _&&_, _||_}
 use mathlib.Core.List.{List, [], _∷_, _++_}
 use lib.Dec.{eqb, ltb, leb}
 use lib.IntN.{ℤ, pos, negsuc}
@@ -94,10 +94,10 @@ isMissing i n v = counts i v && leb n (detectionOf i v)
 abbrev pub missing : Ids → List Vote → ℕ → Bool
 missing i vs n = anyOf (isMissing i n) vs
 
--- whether result r is the position of its id
-abbrev pub isPosition : Ids → ℕ → Bool
-isPosition i r = eqb (positionOf i (getD (i .results) r (pos 0))) (suc r)
+-- whether result r is the last with its id, and so its position
+abbrev pub isLast : Ids → ℕ → Bool
+isLast i r = eqb (positionOf i (getD (i .results) r (pos 0))) (suc r)
 
--- the votes that detection d has for result r: those of its id, where it is the position of its id
+-- the votes that detection d has for result r: those of its id, where it is the last with that id
 unfoldable pub votesAt : Ids → List Vote → ℕ → ℕ → ℕ
-votesAt i vs d r = cond (isPosition i r) (votesFor i vs d (getD (i .results) r (pos 0))) 0
+votesAt i vs d r = cond (isLast i r) (votesFor i vs d (getD (i .results) r (pos 0))) 0

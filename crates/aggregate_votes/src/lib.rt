@@ -2,7 +2,7 @@
 ghost use mathlib.Core.Path.{_≡_};
 ghost use mathlib.Core.Bool.{cond};
 ghost use Prim.Native.Nat.{ℕ, _+_, _-_, _*_, _<_, _≤_};
-ghost use lib.IntN.{ℤ, pos};
+ghost use lib.IntN.{pos};
 ghost use lib.ListN.{length, getD, replicate};
 ghost use lib.Signed.{ltZ};
 ghost use Rattle.aggregate_votes.specs.Votes.{sameId, lastOf, vote, votesIn, votesOf, ids, missing, votesAt, anyOf};
@@ -18,7 +18,7 @@ pub struct CataloguePlace(pub u8);
 pub struct DetectionId(pub u32);
 
 // The id at a place, and 0 past the end, so that no caller has to carry a bound.
-pub fn id_at(ids: &[i64], i: usize) -> i64
+fn id_at(ids: &[i64], i: usize) -> i64
     ensures { λ r. ⌜ r ≡ getD (now (ids .entry)) i (pos 0) ⌝ }
 {
     if i < ids.len() { ids[i] } else { 0 }
@@ -118,11 +118,11 @@ fn vote_for(
         × (now (table .exit) ≡ castVote (now (images .entry)) (now (cols .entry)) nd (vote (a .0) (b .0)) (now (table .entry))) ⌝ }
 {
     if images.len() <= a.0 as usize {
-        return false;
+        return false; // no such image star
     }
     let col = column_at(cols, b);
     if col == 0 {
-        return false;
+        return false; // no such catalogue star, or one without a position
     }
     let d = detection_at(images, a);
     if nd <= d.0 as usize {

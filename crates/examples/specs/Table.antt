@@ -1,7 +1,8 @@
--- The settled examples P1 to P8, as one table over the written meanings, each row by computation.
+-- The settled examples P1 to P8, P11 and P12, as one table over the written meanings, each row by computation.
 use mathlib.Core.Path.{_≡_, refl}
 use mathlib.Core.List.{List, [], _∷_}
 use Prim.Native.Nat.{ℕ}
+use lib.IntN.{ℤ, pos}
 use lib.Ieee.{Float, binary64, ofBits, ofInt, toSigned, neg, mul, add, sub, div, lt, eq, le}
 use Rattle.floats.specs.Floor.{floorOf}
 use Rattle.domain.specs.Domain.{every}
@@ -10,6 +11,9 @@ use Rattle.quad_spine.specs.declared.Normal.the-variants as normal
 use Rattle.quad_spine.specs.Spine.{starAt, fourAt, distSq, longer, longest, inOrder, oriented, spineOf, placesOf, along, across, cFirst, hashOf, leastScale, normalOf, starsAnswer, placesAnswer, fourAnswer, spineAnswer, normalAnswer}
 use Rattle.quad_key.specs.declared.Hash.{Hash}
 use Rattle.quad_key.specs.Key.{laneOf, keyOf, neighbourKey}
+use Rattle.draw.specs.Draw.{nextWord}
+use Rattle.aggregate_votes.specs.Votes.{Ids, ids, Vote, votesOf, votesFor, counts, isFor, votesAt}
+use Rattle.aggregate_choice.specs.Choice.{idOf, better, choose, claim, paired, chosenBy, pairsOf}
 
 -- the float of a pattern
 abbrev float : ℕ → Float
@@ -36,6 +40,13 @@ ys = zero ∷ zero ∷ one ∷ one ∷ []
 abbrev square : Hash
 square = record { h0 = half; h1 = neg half; h2 = half; h3 = half }
 
+-- detections 0 and 1, catalogue ids 7 and 9, and two matches that vote for them; the last vote is for places that do not exist
+abbrev stars : Ids
+stars = ids (0 ∷ 1 ∷ []) (pos 7 ∷ pos 9 ∷ []) (pos 7 ∷ pos 9 ∷ [])
+
+abbrev votes : List Vote
+votes = votesOf (0 ∷ 0 ∷ 0 ∷ 1 ∷ 0 ∷ 0 ∷ 0 ∷ 0 ∷ 1 ∷ 1 ∷ 1 ∷ 255 ∷ 0 ∷ 1 ∷ 1 ∷ 255 ∷ [])
+
 -- the rows
 pub record Table : Type 0 where
   -- P1: the square's spine is 0 and 3, and its hash 0.5, -0.5, 0.5, 0.5
@@ -52,8 +63,33 @@ pub record Table : Type 0 where
   pub p7 : laneOf (float 0x7e37_e43c_8800_759c) 1 ≡ 499
   pub p8 : laneOf (float 0xfe37_e43c_8800_759c) 1 ≡ 500
   pub p8-zero : laneOf zero 1 ≡ 500
+  -- P11: the word after 1
+  pub p11 : nextWord 1 ≡ 0x4082_2041
+  -- P12: detection 0 has three votes for 7, and detection 1 two for 7 and two for 9: only the pair (0, 7)
+  pub p12-first : votesFor stars votes 0 (pos 7) ≡ 3
+  pub p12-second : votesFor stars votes 1 (pos 7) ≡ 2
+  pub p12-third : votesFor stars votes 1 (pos 9) ≡ 2
+  pub p12 : pairsOf stars votes 2 ≡ 0 ∷ []
+  pub p12-id : idOf (stars .results) (chosenBy stars votes 0) ≡ pos 7
 
 -- each row holds by computation
 pub table : Table
-unfolding spineAnswer normalAnswer fourAnswer starsAnswer placesAnswer every starAt fourAt distSq longer longest inOrder oriented spineOf placesOf along across cFirst hashOf leastScale normalOf neighbourKey keyOf laneOf floorOf toSigned ofInt ofBits neg mul add sub div lt eq le
-table = record { p1-spine = refl; p1-hash = refl; p2 = refl; p3 = refl; p4 = refl; p5 = refl; p6 = refl; p7 = refl; p8 = refl; p8-zero = refl }
+unfolding spineAnswer normalAnswer fourAnswer starsAnswer placesAnswer every starAt fourAt distSq longer longest inOrder oriented spineOf placesOf along across cFirst hashOf leastScale normalOf neighbourKey keyOf laneOf floorOf toSigned ofInt ofBits neg mul add sub div lt eq le nextWord votesOf counts isFor votesAt better choose claim paired pairsOf
+table = record {
+  p1-spine = refl;
+  p1-hash = refl;
+  p2 = refl;
+  p3 = refl;
+  p4 = refl;
+  p5 = refl;
+  p6 = refl;
+  p7 = refl;
+  p8 = refl;
+  p8-zero = refl;
+  p11 = refl;
+  p12-first = refl;
+  p12-second = refl;
+  p12-third = refl;
+  p12 = refl;
+  p12-id = refl;
+}

@@ -115,7 +115,8 @@ fn write_all(
     found: &mut [u32],
     matches: &mut [u8],
 )
-    requires { ⌜ Ready (now hashes) n (now lanes) m ⌝ ∗ ⌜ length (now counts) ≡ 12000 ⌝ ∗ ⌜ Counted (now hashes) (now lanes) m n (now counts) ⌝ ∗ ⌜ length (now found) ≡ 12000 ⌝
+    requires { ⌜ Ready (now hashes) n (now lanes) m ⌝ ∗ ⌜ length (now counts) ≡ 12000 ⌝
+        ∗ ⌜ Counted (now hashes) (now lanes) m n (now counts) ⌝ ∗ ⌜ length (now found) ≡ 12000 ⌝
         ∗ ⌜ length (over (nearMatches (now places) (now hashes) (now catalogue) (now lanes) m) 0 n) ≤ length (now matches) ⌝ }
     ensures { λ r. ⌜ now (matches .exit) ≡ sets (now (matches .entry)) 0
         (over (nearMatches (now (places .entry)) (now (hashes .entry)) (now (catalogue .entry)) (now (lanes .entry)) m) 0 n) ⌝ }

@@ -1,9 +1,9 @@
-// The lanes of a list of quads, side by side, and how near a quad's lanes are to those of a hash.
+// The lanes of a list of quads, and how near a quad's lanes are to those of a hash. Lane i of quad j stands
+// at 12000 i + j, so that a loop over the quads of one lane compiles to vector code.
 use quad_key::Hash;
 ghost use mathlib.Core.Path.{_≡_};
 ghost use Prim.Native.Nat.{_+_, _*_, _<_, _≤_};
-ghost use lib.ListN.{length, set};
-ghost use Rattle.quad_key.specs.Key.{keyOf};
+ghost use lib.ListN.{length};
 ghost use Rattle.hash_lanes.specs.Lanes.{hashAt, Laned, baseOf, laneOfKey, withLanes, above, nearLane, nearAt, stepsAt};
 
 // The lanes of a hash at the step -1, from which its three lanes start.

@@ -1,11 +1,14 @@
 -- Rows, and what the calls ask of their lists. Definitions only.
-use mathlib.Core.Bool.{Bool, _&&_}
+use mathlib.Core.Bool.{Bool, cond, not, _&&_}
 use mathlib.Core.List.{List}
 use Prim.Native.Nat.{ℕ}
 use lib.Dec.{leb, eqb}
 use lib.ListN.{length, getD}
 use lib.Ieee.{Float, nan}
 use Rattle.domain.specs.Domain.{isPosition, every}
+use Rattle.domain.specs.declared.Refusal.the-variants as refusal
+use Rattle.domain.specs.declared.Answer.{Answer}
+use Rattle.domain.specs.declared.Answer.the-variants as answer
 use Rattle.rows.specs.declared.Row.{Row}
 
 -- four lists: the pixels, and the points of the tangent plane
@@ -37,3 +40,11 @@ evenRows r = eqb (length (r .py)) (count r) && (eqb (length (r .xi)) (count r) &
 -- every number is a position
 unfoldable pub positionRows : Rows → Bool
 positionRows r = (every isPosition (r .px) && every isPosition (r .py)) && (every isPosition (r .xi) && every isPosition (r .eta))
+
+-- what the tests of the rows come to: number 1, 2 or 3, or done.
+unfoldable pub rowsAnswer : Rows → Answer
+rowsAnswer r =
+    cond (not (fewRows r)) (answer.Refused refusal.Count)
+    (cond (not (evenRows r)) (answer.Refused refusal.Lengths)
+    (cond (not (positionRows r)) (answer.Refused refusal.Value)
+    answer.Done))

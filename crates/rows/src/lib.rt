@@ -1,8 +1,10 @@
 // Rows: four lists of one length, with a pixel and a point of the tangent plane for each row.
+use domain::Answer;
+use domain::Refusal;
 ghost use mathlib.Core.Path.{_≡_};
 ghost use Prim.Native.Nat.{_<_};
 ghost use lib.ListN.{length};
-ghost use Rattle.rows.specs.Rows.{rows, rowAt, fewRows, evenRows, positionRows};
+ghost use Rattle.rows.specs.Rows.{rows, rowAt, fewRows, evenRows, positionRows, rowsAnswer};
 
 // The longest list of rows.
 const MOST_ROWS: usize = 100;
@@ -52,4 +54,20 @@ pub fn position_rows(px: &[f64], py: &[f64], xi: &[f64], eta: &[f64]) -> bool
     let pixels = domain::all_positions(px) & domain::all_positions(py);
     let plane = domain::all_positions(xi) & domain::all_positions(eta);
     pixels & plane
+}
+
+// Whether the lists are rows: the first of refusals 1, 2 and 3, or done.
+pub fn check_rows(px: &[f64], py: &[f64], xi: &[f64], eta: &[f64]) -> Answer
+    ensures { λ r. ⌜ r ≡ rowsAnswer (rows (now (px .entry)) (now (py .entry)) (now (xi .entry)) (now (eta .entry))) ⌝ }
+{
+    if !few_rows(px, py, xi, eta) {
+        return Answer::Refused(Refusal::Count);
+    }
+    if !even_rows(px, py, xi, eta) {
+        return Answer::Refused(Refusal::Lengths);
+    }
+    if !position_rows(px, py, xi, eta) {
+        return Answer::Refused(Refusal::Value);
+    }
+    Answer::Done
 }

@@ -5,11 +5,11 @@ use native.Mathlib.Omega.{arith}
 use borrow.Author.Tests.{le-ltb}
 use Rattle.domain.specs.declared.Answer.{Answer}
 use Rattle.domain.specs.declared.Answer.the-variants as answer
-use Rattle.rows.specs.Rows.{Rows}
+use Rattle.rows.specs.Rows.{Rows, rowsAnswer}
 use Rattle.rows.specs.Rows as rows
 use Rattle.draw.specs.Best.{Found, best, noRefit}
 use Rattle.draw.proofs.Best as best
-use Rattle.affine.specs.Affine.{rowsAnswer, agreeing}
+use Rattle.affine.specs.Affine.{agreeing}
 use Rattle.verify_order.specs.Sorted.{sortedRows}
 use Rattle.verify.specs.Score.{fitTriple, drawn, limit, scoreOf, scoreAfter, scoreAnswer, NoneBetter}
 use Rattle.verify.specs.declared.Score.{Score}

@@ -9,11 +9,11 @@ use lib.Ieee.{Float, binary64, ofBits}
 use Rattle.domain.specs.Answers.{numberOf}
 use Rattle.domain.specs.declared.Answer.{Answer}
 use Rattle.domain.specs.declared.Answer.the-variants as answer
-use Rattle.rows.specs.Rows.{Rows, rowAt}
+use Rattle.rows.specs.Rows.{Rows, rowAt, rowsAnswer}
 use Rattle.rows.specs.Rows as rows
 use Rattle.draw.specs.Draw.{Triple, triples, unlessRepeated}
 use Rattle.draw.specs.Best.{count, best, noRefit}
-use Rattle.affine.specs.Affine.{rowsAnswer, fitOf, agreeing}
+use Rattle.affine.specs.Affine.{fitOf, agreeing}
 use Rattle.affine.specs.declared.Affine.{Affine}
 use Rattle.affine.specs.declared.AffineFit.{AffineFit}
 use Rattle.affine.specs.declared.AffineFit.the-variants as fit

@@ -8,8 +8,8 @@ use Rattle.domain.specs.Domain.{isFinite, isLimit}
 use Rattle.domain.specs.declared.Refusal.the-variants as refusal
 use Rattle.domain.specs.declared.Answer.{Answer}
 use Rattle.domain.specs.declared.Answer.the-variants as answer
-use Rattle.rows.specs.Rows.{Rows, rowAt, count}
-use Rattle.affine.specs.Affine.{rowsAnswer, fitOf, agreeing}
+use Rattle.rows.specs.Rows.{Rows, rowAt, count, rowsAnswer}
+use Rattle.affine.specs.Affine.{fitOf, agreeing}
 use Rattle.affine.specs.declared.Affine.{Affine}
 use Rattle.affine.specs.declared.AffineFit.{AffineFit}
 use Rattle.affine.specs.declared.AffineFit.the-variants as fit

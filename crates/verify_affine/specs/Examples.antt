@@ -7,8 +7,8 @@ use mathlib.Core.Bool.{false}
 use Rattle.floats.specs.Magnitude.{magnitudeOf}
 use Rattle.domain.specs.Domain.{every}
 use Rattle.domain.specs.declared.Refusal.the-variants.{Count, Lengths, Value, Place, Degenerate}
-use Rattle.rows.specs.Rows.{Rows, rows, positionRows}
-use Rattle.affine.specs.Affine.{rowsAnswer, areaOf, affineOf, fitOf, determinantOf, inverseOf, missedXi, missedEta, errorSq, nearRows, agreeing}
+use Rattle.rows.specs.Rows.{Rows, rows, positionRows, rowsAnswer}
+use Rattle.affine.specs.Affine.{areaOf, affineOf, fitOf, determinantOf, inverseOf, missedXi, missedEta, errorSq, nearRows, agreeing}
 use Rattle.affine.specs.declared.Affine.{Affine}
 use Rattle.affine.specs.declared.AffineFit.the-variants as fit
 use Rattle.verify_affine.specs.declared.Inliers.the-variants as inliers

@@ -71,7 +71,7 @@ pub fn fit_affine_3pt(
 ) -> AffineFit
     ensures { λ r. ⌜ r ≡ fitAnswer (rows (now (px .entry)) (now (py .entry)) (now (xi .entry)) (now (eta .entry))) a b c ⌝ }
 {
-    match affine::check_rows(px, py, xi, eta) {
+    match rows::check_rows(px, py, xi, eta) {
         Answer::Refused(why) => AffineFit::Refused(why),
         Answer::Done => fit_places(px, py, xi, eta, a as usize, b as usize, c as usize),
     }
@@ -107,7 +107,7 @@ pub fn count_affine_inliers(
 ) -> Inliers
     ensures { λ r. ⌜ r ≡ inliersAnswer (rows (now (px .entry)) (now (py .entry)) (now (xi .entry)) (now (eta .entry))) affine threshold ⌝ }
 {
-    match affine::check_rows(px, py, xi, eta) {
+    match rows::check_rows(px, py, xi, eta) {
         Answer::Refused(why) => Inliers::Refused(why),
         Answer::Done => match check_values(affine, threshold) {
             Answer::Refused(why) => Inliers::Refused(why),

@@ -1,5 +1,5 @@
--- `aggregate::put_pairs` meets its contract. Assumes nothing.
-use Rattle.aggregate.proofs.Outputs.{wrote}
+-- `aggregate::put_pairs` meets its contract: what the code holds is what the votes say, so each output has its values. Assumes nothing.
+use Rattle.aggregate_outputs.proofs.Outputs.{wrote}
 use Rattle.aggregate.proofs.Answer.{long-enough, counted, below}
 use Rattle.aggregate.specs.Extract.{given, room, found, votePairs, choiceIn}
 use Rattle.aggregate_choice.specs.declared.Choice.{Choice}

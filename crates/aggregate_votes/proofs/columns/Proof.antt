@@ -1,4 +1,4 @@
--- `aggregate_votes::columns` meets its contract. Assumes nothing.
+-- `aggregate_votes::columns` meets its contract: the columns before j are found, and the others are 0. Assumes nothing.
 use borrow.Author.Needs.{needs}
 use Rattle.aggregate_votes.proofs.Cells.{zeros-at, filled}
 use Rattle.aggregate_votes.specs.Table.{columnOf}

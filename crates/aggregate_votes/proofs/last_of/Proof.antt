@@ -1,4 +1,4 @@
--- `aggregate_votes::last_of` meets its contract. Assumes nothing.
+-- `aggregate_votes::last_of` meets its contract: found is the last of the first k results with the id. Assumes nothing.
 use borrow.Author.Needs.{needs}
 use Rattle.aggregate_votes.specs.Votes.{lastOf}
 use lib.IntN.{pos}

@@ -1,4 +1,4 @@
--- `aggregate_votes::tally` meets its contract. Assumes nothing.
+-- `aggregate_votes::tally` meets its contract: the table has the votes of the first m matches. Assumes nothing.
 use borrow.Author.Needs.{needs}
 use Rattle.aggregate_votes.proofs.Cells.{Tallied, start, stepped, column-le, ended}
 use Rattle.aggregate_votes.specs.Votes.{ids}

@@ -1,4 +1,4 @@
--- `aggregate_votes::vote_for` meets its contract. Assumes nothing.
+-- `aggregate_votes::vote_for` meets its contract: the tests of a vote, in their order. Assumes nothing.
 use Rattle.aggregate_votes.specs.Table.{misses, castVote}
 use denote.Ref.{now}
 use borrow.Author.Tests.{lt-ltb, le-ltb, le-leb, lt-leb}

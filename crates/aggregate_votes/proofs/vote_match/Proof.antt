@@ -1,4 +1,4 @@
--- `aggregate_votes::vote_match` meets its contract. Assumes nothing.
+-- `aggregate_votes::vote_match` meets its contract: its four votes go to the table one by one. Assumes nothing.
 use Rattle.aggregate_votes.specs.Votes.{vote}
 use Rattle.aggregate_votes.proofs.Cells.{cast-le, four}
 use denote.Ref.{now}

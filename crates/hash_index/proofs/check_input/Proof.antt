@@ -1,7 +1,7 @@
 -- `hash_index::check_input` meets its contract: each test on the way. Assumes nothing.
-use Rattle.hash_index.specs.Matches.{inputAnswer}
 use borrow.Author.Tests.{lt-ltb, le-ltb, not-true, not-false}
 use borrow.Author.Needs.{needs}
+use Rattle.hash_index.specs.Matches.{inputAnswer}
 use Rattle.hash_index.proofs.check_input.Statement.{statement}
 use Rattle.hash_index.proofs.check_input.Tie as tie
 

@@ -1,17 +1,17 @@
 -- `hash_index::count_all` meets its contract: what is counted and what is left come to the whole, and each count is stored. Assumes nothing.
-use native.Mathlib.Nat.{sub-zero}
 use borrow.Author.Needs.{needs}
-use Rattle.hash_index.proofs.Call.{counted-none, counted-more}
-use Rattle.hash_index.specs.Steps.{nearTo, Counted}
+use mathlib.Core.Path.{_≡_, ap, _∙_}
+use Prim.Native.Nat.{_+_, _-_, _*_, _≤_}
+use native.Mathlib.Nat.{sub-zero}
+use native.Mathlib.Omega.{arith}
+use lib.ListN.{length, length-set, length-append}
+use denote.Ref.{now}
 use Rattle.hash_lanes.specs.Lanes.{hashAt, baseOf}
 use Rattle.hash_near.proofs.Near.{near-most}
 use Rattle.hash_near.proofs.Over.{over-more, over-end}
 use Rattle.hash_near.specs.Over.{over}
-use lib.ListN.{length, length-set, length-append}
-use denote.Ref.{now}
-use native.Mathlib.Omega.{arith}
-use Prim.Native.Nat.{_+_, _-_, _*_, _≤_}
-use mathlib.Core.Path.{_≡_, ap, _∙_}
+use Rattle.hash_index.specs.Steps.{nearTo, Counted}
+use Rattle.hash_index.proofs.Call.{counted-none, counted-more}
 use Rattle.hash_index.proofs.count_all.Statement.{statement}
 use Rattle.hash_index.proofs.count_all.Tie as tie
 

@@ -1,8 +1,8 @@
 -- `hash_index::find_matches` meets its contract: a refused input changes nothing, and a taken one is answered by its core. Assumes nothing.
-use Rattle.hash_index.proofs.Call.{taken}
-use Rattle.hash_index.specs.Matches.{matchesAnswer}
-use mathlib.Core.Path.{refl, sym, _∙_}
 use borrow.Author.Needs.{needs}
+use mathlib.Core.Path.{refl, sym, _∙_}
+use Rattle.hash_index.specs.Matches.{matchesAnswer}
+use Rattle.hash_index.proofs.Call.{taken}
 use Rattle.hash_index.proofs.find_matches.Statement.{statement}
 use Rattle.hash_index.proofs.find_matches.Tie as tie
 

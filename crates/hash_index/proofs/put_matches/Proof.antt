@@ -1,13 +1,13 @@
 -- `hash_index::put_matches` meets its contract: eight places for each near quad are the matches. Assumes nothing.
-use Rattle.hash_index.proofs.Call.{no-room, done}
-use Rattle.hash_index.proofs.Numbered.{eight-all, all-are, total-most}
-use Rattle.hash_index.specs.Matches.{matchesOf}
+use borrow.Author.Needs.{needs}
+use mathlib.Core.Path.{_≡_, refl, sym, ap, _∙_}
+use Prim.Native.Nat.{ℕ, _*_, _/_}
+use native.Mathlib.Omega.{arith}
 use lib.ListN.{length}
 use denote.Ref.{now}
-use native.Mathlib.Omega.{arith}
-use Prim.Native.Nat.{ℕ, _*_, _/_}
-use mathlib.Core.Path.{_≡_, refl, sym, ap, _∙_}
-use borrow.Author.Needs.{needs}
+use Rattle.hash_index.specs.Matches.{matchesOf}
+use Rattle.hash_index.proofs.Call.{no-room, done}
+use Rattle.hash_index.proofs.Numbered.{eight-all, all-are, total-most}
 use Rattle.hash_index.proofs.put_matches.Statement.{statement}
 use Rattle.hash_index.proofs.put_matches.Tie as tie
 

@@ -1,14 +1,14 @@
 -- `hash_index::write_all` meets its contract: what is left, written from p on, comes to the whole. Assumes nothing.
-use Rattle.hash_index.specs.Steps.{nearMatches}
+use mathlib.Core.Path.{_≡_, _∙_}
+use Prim.Native.Nat.{_+_, _-_, _≤_}
+use native.Mathlib.Nat.{sub-zero}
+use native.Mathlib.Omega.{arith}
+use lib.ListN.{length}
+use denote.Ref.{now}
 use Rattle.hash_write.proofs.Writing.{Writing, start, room, step, ended}
 use Rattle.hash_near.proofs.Over.{over-more, over-end}
 use Rattle.hash_near.specs.Over.{over}
-use lib.ListN.{length}
-use denote.Ref.{now}
-use native.Mathlib.Nat.{sub-zero}
-use native.Mathlib.Omega.{arith}
-use Prim.Native.Nat.{_+_, _-_, _≤_}
-use mathlib.Core.Path.{_≡_, _∙_}
+use Rattle.hash_index.specs.Steps.{nearMatches}
 use Rattle.hash_index.proofs.write_all.Statement.{statement}
 use Rattle.hash_index.proofs.write_all.Tie as tie
 

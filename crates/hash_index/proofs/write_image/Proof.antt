@@ -1,13 +1,13 @@
 -- `hash_index::write_image` meets its contract: the near ones are gathered, and then written by number. Assumes nothing.
-use Rattle.hash_near.proofs.Near.{near-most}
-use Rattle.hash_index.proofs.Numbered.{eight-each}
-use Rattle.hash_index.specs.Steps.{nearTo}
-use Rattle.hash_lanes.specs.Lanes.{hashAt, baseOf}
+use borrow.Author.Needs.{needs}
+use mathlib.Core.Path.{_≡_}
+use native.Mathlib.Omega.{arith}
 use lib.ListN.{take}
 use denote.Ref.{now}
-use native.Mathlib.Omega.{arith}
-use mathlib.Core.Path.{_≡_}
-use borrow.Author.Needs.{needs}
+use Rattle.hash_near.proofs.Near.{near-most}
+use Rattle.hash_lanes.specs.Lanes.{hashAt, baseOf}
+use Rattle.hash_index.specs.Steps.{nearTo}
+use Rattle.hash_index.proofs.Numbered.{eight-each}
 use Rattle.hash_index.proofs.write_image.Statement.{statement}
 use Rattle.hash_index.proofs.write_image.Tie as tie
 

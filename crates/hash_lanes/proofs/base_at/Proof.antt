@@ -1,7 +1,7 @@
 -- `hash_lanes::base_at` meets its contract: one below each lane of the key. Assumes nothing.
-use Rattle.hash_lanes.proofs.Number.{base-is}
-use native.Mathlib.Omega.{arith}
 use borrow.Author.Needs.{needs}
+use native.Mathlib.Omega.{arith}
+use Rattle.hash_lanes.proofs.Number.{base-is}
 use Rattle.hash_lanes.proofs.base_at.Statement.{statement}
 use Rattle.hash_lanes.proofs.base_at.Tie as tie
 

@@ -1,12 +1,12 @@
 -- `hash_lanes::fill_lanes` meets its contract: the quads before j have their lanes. Assumes nothing.
 use borrow.Author.Needs.{needs}
-use Rattle.hash_lanes.proofs.Stored.{laned-none, laned-more}
-use Rattle.hash_lanes.specs.Lanes.{Laned}
-use denote.Ref.{now}
-use lib.ListN.{length}
-use native.Mathlib.Omega.{arith}
-use Prim.Native.Nat.{_-_, _≤_}
 use mathlib.Core.Path.{_≡_}
+use Prim.Native.Nat.{_-_, _≤_}
+use native.Mathlib.Omega.{arith}
+use lib.ListN.{length}
+use denote.Ref.{now}
+use Rattle.hash_lanes.specs.Lanes.{Laned}
+use Rattle.hash_lanes.proofs.Stored.{laned-none, laned-more}
 use Rattle.hash_lanes.proofs.fill_lanes.Statement.{statement}
 use Rattle.hash_lanes.proofs.fill_lanes.Tie as tie
 

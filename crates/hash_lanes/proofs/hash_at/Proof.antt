@@ -1,7 +1,7 @@
 -- `hash_lanes::hash_at` meets its contract: the hash of a quad, by its definition. Assumes nothing.
-use Rattle.hash_lanes.specs.Lanes.{hashAt}
-use mathlib.Core.Path.{refl}
 use borrow.Author.Needs.{needs}
+use mathlib.Core.Path.{refl}
+use Rattle.hash_lanes.specs.Lanes.{hashAt}
 use Rattle.hash_lanes.proofs.hash_at.Statement.{statement}
 use Rattle.hash_lanes.proofs.hash_at.Tie as tie
 

@@ -1,6 +1,6 @@
 -- `hash_lanes::is_near` meets its contract: each lane by what `near_lane` ensures. Assumes nothing.
-use Rattle.hash_lanes.specs.Lanes.{nearAt}
 use borrow.Author.Needs.{needs}
+use Rattle.hash_lanes.specs.Lanes.{nearAt}
 use Rattle.hash_lanes.proofs.is_near.Statement.{statement}
 use Rattle.hash_lanes.proofs.is_near.Tie as tie
 

@@ -1,10 +1,10 @@
 -- `hash_lanes::near_lane` meets its contract: the wrapped difference is how far x is above b. Assumes nothing.
-use Rattle.hash_lanes.specs.Lanes.{above}
+use borrow.Author.Needs.{needs}
+use mathlib.Core.Path.{ap, _≡_}
+use Prim.Native.Nat.{ℕ}
 use native.Mathlib.Omega.{arith}
 use lib.Dec.{ltb}
-use Prim.Native.Nat.{ℕ}
-use mathlib.Core.Path.{ap, _≡_}
-use borrow.Author.Needs.{needs}
+use Rattle.hash_lanes.specs.Lanes.{above}
 use Rattle.hash_lanes.proofs.near_lane.Statement.{statement}
 use Rattle.hash_lanes.proofs.near_lane.Tie as tie
 

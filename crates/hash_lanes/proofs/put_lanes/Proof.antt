@@ -1,7 +1,7 @@
 -- `hash_lanes::put_lanes` meets its contract: four stores, each with its length kept. Assumes nothing.
-use lib.ListN.{length-set}
-use native.Mathlib.Omega.{arith}
 use borrow.Author.Needs.{needs}
+use native.Mathlib.Omega.{arith}
+use lib.ListN.{length-set}
 use Rattle.hash_lanes.proofs.put_lanes.Statement.{statement}
 use Rattle.hash_lanes.proofs.put_lanes.Tie as tie
 

@@ -1,6 +1,6 @@
 -- `hash_lanes::steps` meets its contract: each step by what `step` ensures. Assumes nothing.
-use Rattle.hash_lanes.specs.Lanes.{stepsAt}
 use borrow.Author.Needs.{needs}
+use Rattle.hash_lanes.specs.Lanes.{stepsAt}
 use Rattle.hash_lanes.proofs.steps.Statement.{statement}
 use Rattle.hash_lanes.proofs.steps.Tie as tie
 

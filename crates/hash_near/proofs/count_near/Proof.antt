@@ -1,12 +1,12 @@
 -- `hash_near::count_near` meets its contract: what is counted and what is left come to the whole. Assumes nothing.
 use borrow.Author.Needs.{needs}
-use Rattle.hash_near.proofs.Near.{byte-most, count-more, count-end}
-use Rattle.hash_near.specs.Near.{nearFrom}
-use denote.Ref.{now}
-use lib.ListN.{length}
-use native.Mathlib.Omega.{arith}
-use Prim.Native.Nat.{_+_, _-_, _≤_}
 use mathlib.Core.Path.{_≡_}
+use Prim.Native.Nat.{_+_, _-_, _≤_}
+use native.Mathlib.Omega.{arith}
+use lib.ListN.{length}
+use denote.Ref.{now}
+use Rattle.hash_near.specs.Near.{nearFrom}
+use Rattle.hash_near.proofs.Near.{byte-most, count-more, count-end}
 use Rattle.hash_near.proofs.count_near.Statement.{statement}
 use Rattle.hash_near.proofs.count_near.Tie as tie
 

@@ -1,11 +1,11 @@
 -- `hash_near::gather` meets its contract: those found, and then those left, are all; while some are not found, a block is left. Assumes nothing.
-use Rattle.hash_near.proofs.Near.{Found, start, step, finished, near-most}
-use Rattle.hash_near.proofs.Over.{over-split, some-left}
-use Rattle.hash_near.specs.Near.{nearOne, nearFrom}
-use denote.Ref.{now}
+use Prim.Native.Nat.{_-_, _≤_, _<_}
 use native.Mathlib.Nat.{sub-zero}
 use native.Mathlib.Omega.{arith}
-use Prim.Native.Nat.{_-_, _≤_, _<_}
+use denote.Ref.{now}
+use Rattle.hash_near.specs.Near.{nearOne, nearFrom}
+use Rattle.hash_near.proofs.Near.{Found, start, step, finished, near-most}
+use Rattle.hash_near.proofs.Over.{over-split, some-left}
 use Rattle.hash_near.proofs.gather.Statement.{statement}
 use Rattle.hash_near.proofs.gather.Tie as tie
 

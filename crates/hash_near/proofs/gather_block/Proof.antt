@@ -1,11 +1,11 @@
 -- `hash_near::gather_block` meets its contract: those found, and then those left, are all. Assumes nothing.
 use borrow.Author.Needs.{needs}
+use Prim.Native.Nat.{_+_, _-_, _≤_}
+use native.Mathlib.Omega.{arith}
+use denote.Ref.{now}
+use Rattle.hash_near.specs.Near.{nearOne, nearFrom}
 use Rattle.hash_near.proofs.Near.{Found, start, step, ended, one-most}
 use Rattle.hash_near.proofs.Over.{over-more, over-end}
-use Rattle.hash_near.specs.Near.{nearOne, nearFrom}
-use denote.Ref.{now}
-use native.Mathlib.Omega.{arith}
-use Prim.Native.Nat.{_+_, _-_, _≤_}
 use Rattle.hash_near.proofs.gather_block.Statement.{statement}
 use Rattle.hash_near.proofs.gather_block.Tie as tie
 

@@ -1,11 +1,11 @@
 -- `hash_near::gather_one` meets its contract: a near quad is stored after those found, and another is passed over. Assumes nothing.
-use Rattle.hash_near.proofs.Near.{one-near, one-far, one-more, none-more}
-use Rattle.hash_lanes.proofs.Number.{steps-small}
-use Prim.Native.Nat.{_<_}
-use denote.Ref.{now}
-use native.Mathlib.Omega.{arith}
-use mathlib.Core.Path.{sym, _∙_}
 use borrow.Author.Needs.{needs}
+use mathlib.Core.Path.{sym, _∙_}
+use Prim.Native.Nat.{_<_}
+use native.Mathlib.Omega.{arith}
+use denote.Ref.{now}
+use Rattle.hash_lanes.proofs.Number.{steps-small}
+use Rattle.hash_near.proofs.Near.{one-near, one-far, one-more, none-more}
 use Rattle.hash_near.proofs.gather_one.Statement.{statement}
 use Rattle.hash_near.proofs.gather_one.Tie as tie
 

@@ -1,9 +1,9 @@
 -- `hash_near::gather_some` meets its contract: a block that counts none has none. Assumes nothing.
+use borrow.Author.Needs.{needs}
+use mathlib.Core.Path.{sym, _∙_}
+use denote.Ref.{now}
 use Rattle.hash_near.proofs.Over.{no-length}
 use Rattle.hash_near.proofs.Near.{none-more}
-use denote.Ref.{now}
-use mathlib.Core.Path.{sym, _∙_}
-use borrow.Author.Needs.{needs}
 use Rattle.hash_near.proofs.gather_some.Statement.{statement}
 use Rattle.hash_near.proofs.gather_some.Tie as tie
 

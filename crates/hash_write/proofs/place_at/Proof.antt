@@ -1,8 +1,8 @@
 -- `hash_write::place_at` meets its contract: past the end the place is 0. Assumes nothing.
+use borrow.Author.Needs.{needs}
+use mathlib.Core.Path.{sym}
 use lib.ListN.{List·getD-eq-default}
 use denote.Ref.{now}
-use mathlib.Core.Path.{sym}
-use borrow.Author.Needs.{needs}
 use Rattle.hash_write.proofs.place_at.Statement.{statement}
 use Rattle.hash_write.proofs.place_at.Tie as tie
 

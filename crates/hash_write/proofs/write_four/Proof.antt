@@ -1,8 +1,8 @@
 -- `hash_write::write_four` meets its contract: four stores, each with its length kept. Assumes nothing.
-use lib.ListN.{length-set}
+use borrow.Author.Needs.{needs}
 use native.Mathlib.Numerals.{add-one, add-two, add-three}
 use native.Mathlib.Omega.{arith}
-use borrow.Author.Needs.{needs}
+use lib.ListN.{length-set}
 use Rattle.hash_write.proofs.write_four.Statement.{statement}
 use Rattle.hash_write.proofs.write_four.Tie as tie
 

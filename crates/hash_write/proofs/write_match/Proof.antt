@@ -1,7 +1,7 @@
 -- `hash_write::write_match` meets its contract: two runs of four stores. Assumes nothing.
-use Rattle.hash_write.proofs.Writing.{two-fours}
-use denote.Ref.{now}
 use borrow.Author.Needs.{needs}
+use denote.Ref.{now}
+use Rattle.hash_write.proofs.Writing.{two-fours}
 use Rattle.hash_write.proofs.write_match.Statement.{statement}
 use Rattle.hash_write.proofs.write_match.Tie as tie
 

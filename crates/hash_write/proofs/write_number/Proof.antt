@@ -1,12 +1,12 @@
 -- `hash_write::write_number` meets its contract: what is left, written from q on, comes to the whole. Assumes nothing.
-use Rattle.hash_write.proofs.Writing.{Writing, start, room, step, ended, each-more, each-end}
-use Rattle.hash_write.specs.Write.{pick}
-use Rattle.hash_near.specs.Over.{each}
+use borrow.Author.Needs.{scaled-fits, needs}
+use Prim.Native.Nat.{_+_, _-_, _≤_}
+use native.Mathlib.Omega.{arith}
 use lib.ListN.{length, getD, take, drop}
 use denote.Ref.{now}
-use native.Mathlib.Omega.{arith}
-use Prim.Native.Nat.{_+_, _-_, _≤_}
-use borrow.Author.Needs.{scaled-fits, needs}
+use Rattle.hash_near.specs.Over.{each}
+use Rattle.hash_write.specs.Write.{pick}
+use Rattle.hash_write.proofs.Writing.{Writing, start, room, step, ended, each-more, each-end}
 use Rattle.hash_write.proofs.write_number.Statement.{statement}
 use Rattle.hash_write.proofs.write_number.Tie as tie
 

@@ -1,10 +1,10 @@
 -- `hash_write::write_one` meets its contract: a match is written where the number is n, and nothing elsewhere. Assumes nothing.
-use Rattle.hash_write.proofs.Writing.{picked, passed, one-part, no-part}
+use borrow.Author.Needs.{needs}
+use mathlib.Core.Path.{refl, ap}
+use native.Mathlib.Omega.{arith}
 use lib.ListN.{length}
 use denote.Ref.{now}
-use native.Mathlib.Omega.{arith}
-use mathlib.Core.Path.{refl, ap}
-use borrow.Author.Needs.{needs}
+use Rattle.hash_write.proofs.Writing.{picked, passed, one-part, no-part}
 use Rattle.hash_write.proofs.write_one.Statement.{statement}
 use Rattle.hash_write.proofs.write_one.Tie as tie
 

@@ -1,14 +1,14 @@
 -- `hash_write::write_quad` meets its contract: what is left, written from q on, comes to the whole; while there is more to write, a number is left. Assumes nothing.
 use borrow.Author.Needs.{needs}
-use Rattle.hash_write.proofs.Writing.{Writing, start, room, step, ended, from-first}
-use Rattle.hash_write.specs.Write.{ofNumber, byNumber}
-use Rattle.hash_near.proofs.Over.{over-more, some-left, no-length}
-use Rattle.hash_near.specs.Over.{over}
+use mathlib.Core.Path.{_≡_}
+use Prim.Native.Nat.{_+_, _-_, _*_, _≤_, _<_}
+use native.Mathlib.Omega.{arith}
 use lib.ListN.{take}
 use denote.Ref.{now}
-use native.Mathlib.Omega.{arith}
-use Prim.Native.Nat.{_+_, _-_, _*_, _≤_, _<_}
-use mathlib.Core.Path.{_≡_}
+use Rattle.hash_near.proofs.Over.{over-more, some-left, no-length}
+use Rattle.hash_near.specs.Over.{over}
+use Rattle.hash_write.specs.Write.{ofNumber, byNumber}
+use Rattle.hash_write.proofs.Writing.{Writing, start, room, step, ended, from-first}
 use Rattle.hash_write.proofs.write_quad.Statement.{statement}
 use Rattle.hash_write.proofs.write_quad.Tie as tie
 

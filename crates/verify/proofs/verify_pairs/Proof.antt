@@ -1,7 +1,7 @@
 -- `verify::verify_pairs` meets its contract: the tests decide; rows that passed them are of one length, and at most a hundred. Assumes nothing.
 use Rattle.verify.proofs.Scored.{both}
 use Rattle.verify.specs.Score.{scoreAnswer}
-use Rattle.affine.proofs.Passed.{checked}
+use Rattle.rows.proofs.Passed.{checked}
 use borrow.Author.Tests.{lt-ltb, le-ltb}
 use native.Mathlib.Omega.{arith}
 use mathlib.Core.Path.{_∙_, sym}

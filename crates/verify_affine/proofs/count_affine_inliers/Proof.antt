@@ -1,6 +1,6 @@
 -- `verify_affine::count_affine_inliers` meets its contract: the tests decide; rows that passed them are of one length. Assumes nothing.
 use Rattle.verify_affine.specs.Calls.{inliersAnswer}
-use Rattle.affine.proofs.Passed.{checked}
+use Rattle.rows.proofs.Passed.{checked}
 use mathlib.Core.Path.{_∙_, sym}
 use borrow.Author.Needs.{needs}
 use Rattle.verify_affine.proofs.count_affine_inliers.Statement.{statement}

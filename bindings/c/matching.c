@@ -1,0 +1,124 @@
+/* From quads to a score, from C: each answer, and every byte of all that is lent, beside what it
+   must be. */
+#include "moorspindle.h"
+
+#include <inttypes.h>
+#include <math.h>
+#include <stdio.h>
+#include <string.h>
+
+/* What the calls write into, and what must stand there afterwards. */
+static struct lent {
+    double px_x[3], px_y[3], ra[3], dec[3], snr[3];
+    double affine[7];
+    uint64_t count;
+    uint32_t votes[3];
+    uint8_t matches[20];
+} lent, due;
+
+/* a quad, and two of the catalogue: one a hundredth off, one that is the same */
+static const uint8_t image[] = {0, 3, 1, 2};
+static const double hash[] = {0.5, -0.5, 0.5, 0.5};
+static const uint8_t crowd[48004];
+static const uint8_t catalogue[] = {4, 5, 6, 7, 0, 1, 2, 3};
+static const double hashes[] = {0.5, -0.5, 0.5, 0.51, 0.5, -0.5, 0.5, 0.5};
+
+/* two matches for two detections: 0 and 7 have three votes, 1 and 7 two, 1 and 9 two */
+static const uint8_t votes[] = {0, 0, 0, 1, 0, 0, 0, 0, 1, 1, 1, 255, 0, 1, 1, 0};
+static const double det_x[] = {10, 20}, det_y[] = {11, 21}, det_snr[] = {5, 6};
+static const uint32_t ids[] = {0, 1}, missing[] = {0, 2};
+static const int64_t sky[] = {7, 9}, results[] = {7, 9, 7};
+static const double ra[] = {100, 200, 300}, dec[] = {-1, -2, -3};
+
+/* a plate of three rows, and one that is off by 10 pixels */
+static const double px[] = {0, 1, 0, 0}, py[] = {0, 0, 1, 0};
+static const double xi[] = {0, 1, 0, 10}, eta[] = {0, 0, 1, 0};
+static const double unit[] = {1, 0, 0, 0, 1, 0};
+static const double bad[] = {0, 1, NAN, 1};
+static const double many[101];
+
+static int wrong = 0;
+
+/* Marks every byte, so that one that is written without need shows. */
+static void lend(void)
+{
+    memset(&lent, 0xaa, sizeof lent);
+    memcpy(&due, &lent, sizeof due);
+}
+
+static void check(const char *call, uint32_t got, uint32_t number)
+{
+    int same = got == number && memcmp(&lent, &due, sizeof due) == 0;
+    printf("%-2" PRIu32 " %s%s\n", got, call, same ? "" : "  WRONG");
+    wrong += !same;
+}
+
+#define CALL(number, name, ...) check(#name, moorspindle_##name(__VA_ARGS__), number)
+#define REFUSED(number, name, ...) (lend(), CALL(number, name, __VA_ARGS__))
+
+#define IMAGE image, 4, hash, 4
+#define CATALOGUE catalogue, 8, hashes, 8
+#define DETECTIONS det_x, 2, det_y, 2, det_snr, 2
+#define RESULTS results, 3, ra, 3, dec, 3
+#define PAIRS(n) lent.px_x, 3, lent.px_y, 3, lent.ra, 3, lent.dec, 3, lent.votes, n, lent.snr, 3, &lent.count
+#define ROWS(n) px, n, py, n, xi, n, eta, n
+
+static void matches(void)
+{
+    static const uint8_t found[] = {0, 3, 1, 2, 0, 1, 2, 3, 0, 3, 1, 2, 4, 5, 6, 7};
+    lend();
+    memcpy(due.matches, found, sizeof found);
+    due.count = 2;
+    CALL(0, find_matches, IMAGE, CATALOGUE, lent.matches, 20, &lent.count);
+    REFUSED(1, find_matches, crowd, 48004, hash, 3, CATALOGUE, lent.matches, 20, &lent.count);
+    REFUSED(2, find_matches, image, 3, hash, 4, CATALOGUE, lent.matches, 20, &lent.count);
+    REFUSED(7, find_matches, IMAGE, CATALOGUE, lent.matches, 15, &lent.count);
+}
+
+static void pairs(void)
+{
+    lend();
+    due.px_x[0] = 10, due.px_y[0] = 11, due.snr[0] = 5;
+    due.ra[0] = 300, due.dec[0] = -3; /* of the id's two results the last */
+    due.votes[0] = 3, due.count = 1;
+    CALL(0, extract_pairs, votes, 16, DETECTIONS, ids, 2, sky, 2, RESULTS, PAIRS(3));
+    REFUSED(1, extract_pairs, votes, 16, many, 101, det_y, 2, det_snr, 2, ids, 2, sky, 2, RESULTS, PAIRS(3));
+    REFUSED(2, extract_pairs, votes, 15, DETECTIONS, ids, 2, sky, 2, RESULTS, PAIRS(3));
+    REFUSED(3, extract_pairs, votes, 16, bad + 2, 2, det_y, 2, det_snr, 2, ids, 2, sky, 2, RESULTS, PAIRS(3));
+    REFUSED(4, extract_pairs, votes, 16, DETECTIONS, missing, 2, sky, 2, RESULTS, PAIRS(3));
+    REFUSED(7, extract_pairs, votes, 16, DETECTIONS, ids, 2, sky, 2, RESULTS, PAIRS(0));
+}
+
+static void affines(void)
+{
+    lend();
+    memcpy(due.affine, unit, sizeof unit);
+    CALL(0, fit_affine_3pt, ROWS(3), 0, 1, 2, lent.affine, 7);
+    REFUSED(1, fit_affine_3pt, many, 101, py, 3, xi, 3, eta, 3, 0, 1, 2, lent.affine, 7);
+    REFUSED(2, fit_affine_3pt, px, 3, py, 2, xi, 3, eta, 3, 0, 1, 2, lent.affine, 7);
+    REFUSED(3, fit_affine_3pt, bad, 3, py, 3, xi, 3, eta, 3, 0, 1, 2, lent.affine, 7);
+    REFUSED(4, fit_affine_3pt, ROWS(3), 0, 1, 3, lent.affine, 5);
+    REFUSED(7, fit_affine_3pt, ROWS(3), 0, 1, 1, lent.affine, 5);
+    REFUSED(8, fit_affine_3pt, ROWS(3), 0, 1, 1, lent.affine, 6);
+    lend();
+    due.count = 3; /* an error of exactly the threshold does not agree */
+    CALL(0, count_affine_inliers, ROWS(4), unit, 6, 10.0, &lent.count);
+    REFUSED(2, count_affine_inliers, ROWS(4), unit, 5, 10.0, &lent.count);
+    REFUSED(3, count_affine_inliers, ROWS(4), unit, 6, -1.0, &lent.count);
+    lend();
+    due.count = 3;
+    CALL(0, verify_pairs, ROWS(3), &lent.count);
+    lend();
+    due.count = 0;
+    CALL(0, verify_pairs, ROWS(2), &lent.count);
+    REFUSED(3, verify_pairs, bad, 4, py, 4, xi, 4, eta, 4, &lent.count);
+}
+
+int main(void)
+{
+    matches();
+    pairs();
+    affines();
+    printf("%d wrong\n", wrong);
+    return wrong != 0;
+}
