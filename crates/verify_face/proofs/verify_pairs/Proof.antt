@@ -19,12 +19,12 @@ enum-known-count c = search needs
 returns : tie.Need-returns
 returns c =
     let tried = c .before .before .before .before in
-    rw (← tried .verify-pairs .ensures, c .before .before .why .given .1) (c .number .ensures, refl)
+    rw (← tried .verify-pairs .ensures .0, c .before .before .why .given .1) (c .number .ensures, refl)
 
 returns-2 : tie.Need-returns-2
 returns-2 c =
     let tried = c .before .before .before in
-    rw (← tried .verify-pairs .ensures, c .before .count .given .1) (refl, refl)
+    rw (← tried .verify-pairs .ensures .0, c .before .count .given .1) (refl, refl)
 
 pub verify-pairs-spec : {M : Type 1} → statement M
 verify-pairs-spec =
