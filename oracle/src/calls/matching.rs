@@ -63,7 +63,7 @@ const FIND_MATCHES: Call = Call {
         let room = random.one_of(&[exact, exact, exact, exact + 9, exact.saturating_sub(1)]);
         matches_case(&image, &catalogue, room)
     },
-    count: 60_000,
+    count: 200_000,
     theirs: |case| find_matches(case, theirs::matching::find_matches),
     ours: |case| find_matches(case, ours::matching::find_matches),
 };
@@ -255,7 +255,7 @@ const EXTRACT_PAIRS: Call = Call {
         }
         pairs_case(&lists, rooms)
     },
-    count: 100_000,
+    count: 500_000,
     theirs: |case| extract_pairs(case, theirs::matching::extract_pairs),
     ours: |case| extract_pairs(case, ours::matching::extract_pairs),
 };
@@ -695,7 +695,7 @@ const VERIFY_PAIRS: Call = Call {
         let n = random.one_of(&[0, 1, 2, 3, 4, 5, 7, 12]);
         rows::random_or_bad(random, n).fields()
     },
-    count: 12_000,
+    count: 100_000,
     theirs: |case| verify_pairs(case, theirs::matching::verify_pairs),
     ours: |case| verify_pairs(case, ours::matching::verify_pairs),
 };
