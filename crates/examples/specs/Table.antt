@@ -1,4 +1,4 @@
--- The settled examples P1 to P8, P11 and P12, as one table over the written meanings, each row by computation.
+-- The settled examples P1 to P12, as one table over the written meanings, each row by computation.
 use mathlib.Core.Path.{_≡_, refl}
 use mathlib.Core.List.{List, [], _∷_}
 use Prim.Native.Nat.{ℕ}
@@ -11,6 +11,7 @@ use Rattle.quad_spine.specs.declared.Normal.the-variants as normal
 use Rattle.quad_spine.specs.Spine.{starAt, fourAt, distSq, longer, longest, inOrder, oriented, spineOf, placesOf, along, across, cFirst, hashOf, leastScale, normalOf, starsAnswer, placesAnswer, fourAnswer, spineAnswer, normalAnswer}
 use Rattle.quad_key.specs.declared.Hash.{Hash}
 use Rattle.quad_key.specs.Key.{laneOf, keyOf, neighbourKey}
+use Rattle.cd_pool.specs.Pool.{greatest, leastOf, placesFrom, poolOf}
 use Rattle.draw.specs.Draw.{nextWord}
 use Rattle.aggregate_votes.specs.Votes.{Ids, ids, Vote, votesOf, votesFor, counts, isFor, votesAt}
 use Rattle.aggregate_choice.specs.Choice.{idOf, better, choose, claim, paired, chosenBy, pairsOf}
@@ -63,6 +64,9 @@ pub record Table : Type 0 where
   pub p7 : laneOf (float 0x7e37_e43c_8800_759c) 1 ≡ 499
   pub p8 : laneOf (float 0xfe37_e43c_8800_759c) 1 ≡ 500
   pub p8-zero : laneOf zero 1 ≡ 500
+  -- P9 and P10: of four rows with votes 30, 9, 9, 9 the first alone is in the pool; with 30, 10, 10, 9 the first three
+  pub p9 : poolOf (30 ∷ 9 ∷ 9 ∷ 9 ∷ []) 4 ≡ 0 ∷ []
+  pub p10 : poolOf (30 ∷ 10 ∷ 10 ∷ 9 ∷ []) 4 ≡ 0 ∷ 1 ∷ 2 ∷ []
   -- P11: the word after 1
   pub p11 : nextWord 1 ≡ 0x4082_2041
   -- P12: detection 0 has three votes for 7, and detection 1 two for 7 and two for 9: only the pair (0, 7)
@@ -74,7 +78,7 @@ pub record Table : Type 0 where
 
 -- each row holds by computation
 pub table : Table
-unfolding spineAnswer normalAnswer fourAnswer starsAnswer placesAnswer every starAt fourAt distSq longer longest inOrder oriented spineOf placesOf along across cFirst hashOf leastScale normalOf neighbourKey keyOf laneOf floorOf toSigned ofInt ofBits neg mul add sub div lt eq le nextWord votesOf counts isFor votesAt better choose claim paired pairsOf
+unfolding spineAnswer normalAnswer fourAnswer starsAnswer placesAnswer every starAt fourAt distSq longer longest inOrder oriented spineOf placesOf along across cFirst hashOf leastScale normalOf neighbourKey keyOf laneOf floorOf toSigned ofInt ofBits neg mul add sub div lt eq le poolOf placesFrom leastOf greatest nextWord votesOf counts isFor votesAt better choose claim paired pairsOf
 table = record {
   p1-spine = refl;
   p1-hash = refl;
@@ -86,6 +90,8 @@ table = record {
   p7 = refl;
   p8 = refl;
   p8-zero = refl;
+  p9 = refl;
+  p10 = refl;
   p11 = refl;
   p12-first = refl;
   p12-second = refl;

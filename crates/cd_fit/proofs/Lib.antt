@@ -1,0 +1,4 @@
+pub mod Axes
+pub mod Passed
+pub mod OnlyOn
+pub mod Pivots

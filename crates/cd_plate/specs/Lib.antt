@@ -1,0 +1,4 @@
+pub mod Plate
+pub mod Masked
+pub mod Filled
+pub mod Errors

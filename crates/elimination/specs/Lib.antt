@@ -1,0 +1,5 @@
+pub mod Elimination
+pub mod Holds
+pub mod Steps
+pub mod Instances
+pub mod Examples
