@@ -77,4 +77,25 @@ uint32_t moorspindle_count_affine_inliers(const double *px, size_t, const double
         const double *affine, size_t, double threshold, uint64_t *inliers);
 uint32_t moorspindle_verify_pairs(const double *px, size_t, const double *py, size_t,
         const double *xi, size_t, const double *eta, size_t, uint64_t *score);
+
+/* ---- cd_matrix.rs. What each can answer beside 0: both fits 1 2 3 7 8, compute_pixel_errors
+   1 2 3 7, compute_residuals 1 2 3 7, rms_error 1, weighted_rms_error 1 2,
+   solve_normal_equations 1 2 7 8 */
+uint32_t moorspindle_fit_cd_matrix_6(const double *px, size_t, const double *py, size_t,
+        const double *xi, size_t, const double *eta, size_t,
+        const uint8_t *mask, size_t, double *cd, size_t);            /* 6 */
+uint32_t moorspindle_fit_cd_weighted(const double *px, size_t, const double *py, size_t,
+        const double *xi, size_t, const double *eta, size_t,
+        const uint8_t *mask, size_t, const double *weights, size_t, double *cd, size_t);
+uint32_t moorspindle_compute_pixel_errors(const double *px, size_t, const double *py, size_t,
+        const double *xi, size_t, const double *eta, size_t,
+        const uint8_t *mask, size_t, const double *cd, size_t, double *errors, size_t);
+/* wcs: crpix1, crpix2, cd1_1, cd1_2, cd2_1, cd2_2; rows in degrees */
+uint32_t moorspindle_compute_residuals(const double *px, size_t, const double *py, size_t,
+        const double *xi, size_t, const double *eta, size_t, const double *wcs, size_t,
+        double *err_x, size_t, double *err_y, size_t, double *err_px, size_t, uint64_t *residuals);
+uint32_t moorspindle_rms_error(const double *err_px, size_t, double *rms);
+uint32_t moorspindle_weighted_rms_error(const double *err_px, size_t, const double *weights, size_t, double *rms);
+uint32_t moorspindle_solve_normal_equations(const double *a, size_t, const double *b, size_t,
+        uint32_t n, double *x, size_t);
 #endif

@@ -1,5 +1,6 @@
 //! Moorspindle's calls, as bindings/c/moorspindle.h declares them.
 
+pub mod cd;
 pub mod matching;
 
 #[link(name = "moorspindle", kind = "static")]

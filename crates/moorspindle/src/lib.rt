@@ -17,6 +17,11 @@ ghost use Rattle.hash_index.specs.Matches.{matchesOf};
 ghost use Rattle.aggregate.specs.Extract.{given, room, pairXs, pairYs, pairRas, pairDecs, pairVotes, pairSnrs};
 ghost use Rattle.matching_face.specs.Face.{matchesFace, matchesCount, pairsFace, pairsCount};
 ghost use Rattle.verify_face.specs.Face.{affineFace, affineWritten, inliersFace, inliersCount, scoreFace, scoreCount};
+ghost use Rattle.cd_fit.specs.Fit.{fitAnswer};
+ghost use Rattle.cd_normal.specs.Normal.{normalSolved, unknownsOf, normalAnswer};
+ghost use Rattle.cd_residuals.specs.Residuals.{residualsX, residualsY, residualsPx, foundOf};
+ghost use Rattle.cd_face.specs.Face.{fitFace, fitWritten, weightedFit, wcsIn, errorsFace, errorsWritten, residualsFace, valueAfter, rmsFace, rmsValue};
+ghost use Rattle.cd_face.specs.Face.{weightedFace, weightedValue};
 
 // ---- floats
 
@@ -372,4 +377,136 @@ pub extern "C" fn moorspindle_verify_pairs(
         (now (score .entry)) ⌝ }
 {
     verify_face::verify_pairs(px, py, xi, eta, score)
+}
+
+// ---- solvers
+
+#[no_mangle]
+pub extern "C" fn moorspindle_fit_cd_matrix_6(
+    px: &[f64],
+    py: &[f64],
+    xi: &[f64],
+    eta: &[f64],
+    mask: &[u8],
+    cd: &mut [f64],
+) -> u32
+    ensures number { λ r. ⌜ r ≡ answerNumber (fitFace (fitAnswer (rows (now (px .entry)) (now (py .entry)) (now (xi .entry)) (now (eta .entry))) (now (mask .entry))) (length (now (cd .entry)))) ⌝ }
+    ensures cd { λ r. ⌜ now (cd .exit) ≡ lentAfter
+        (fitFace (fitAnswer (rows (now (px .entry)) (now (py .entry)) (now (xi .entry)) (now (eta .entry))) (now (mask .entry))) (length (now (cd .entry))))
+        (fitWritten (fitAnswer (rows (now (px .entry)) (now (py .entry)) (now (xi .entry)) (now (eta .entry))) (now (mask .entry))))
+        (now (cd .entry)) ⌝ }
+{
+    cd_face::fit_cd_matrix_6(px, py, xi, eta, mask, cd)
+}
+
+#[no_mangle]
+pub extern "C" fn moorspindle_fit_cd_weighted(
+    px: &[f64],
+    py: &[f64],
+    xi: &[f64],
+    eta: &[f64],
+    mask: &[u8],
+    weights: &[f64],
+    cd: &mut [f64],
+) -> u32
+    ensures number { λ r. ⌜ r ≡ answerNumber (fitFace (weightedFit (rows (now (px .entry)) (now (py .entry)) (now (xi .entry)) (now (eta .entry))) (now (mask .entry)) (now (weights .entry))) (length (now (cd .entry)))) ⌝ }
+    ensures cd { λ r. ⌜ now (cd .exit) ≡ lentAfter
+        (fitFace (weightedFit (rows (now (px .entry)) (now (py .entry)) (now (xi .entry)) (now (eta .entry))) (now (mask .entry)) (now (weights .entry))) (length (now (cd .entry))))
+        (fitWritten (weightedFit (rows (now (px .entry)) (now (py .entry)) (now (xi .entry)) (now (eta .entry))) (now (mask .entry)) (now (weights .entry))))
+        (now (cd .entry)) ⌝ }
+{
+    cd_face::fit_cd_weighted(px, py, xi, eta, mask, weights, cd)
+}
+
+#[no_mangle]
+pub extern "C" fn moorspindle_compute_pixel_errors(
+    px: &[f64],
+    py: &[f64],
+    xi: &[f64],
+    eta: &[f64],
+    mask: &[u8],
+    cd: &[f64],
+    errors: &mut [f64],
+) -> u32
+    ensures number { λ r. ⌜ r ≡ answerNumber
+        (errorsFace (rows (now (px .entry)) (now (py .entry)) (now (xi .entry)) (now (eta .entry))) (now (mask .entry)) (now (cd .entry)) (length (now (errors .entry)))) ⌝ }
+    ensures errors { λ r. ⌜ now (errors .exit) ≡ lentAfter
+        (errorsFace (rows (now (px .entry)) (now (py .entry)) (now (xi .entry)) (now (eta .entry))) (now (mask .entry)) (now (cd .entry)) (length (now (errors .entry))))
+        (errorsWritten (rows (now (px .entry)) (now (py .entry)) (now (xi .entry)) (now (eta .entry))) (now (mask .entry)) (now (cd .entry)))
+        (now (errors .entry)) ⌝ }
+{
+    cd_face::compute_pixel_errors(px, py, xi, eta, mask, cd, errors)
+}
+
+#[no_mangle]
+pub extern "C" fn moorspindle_compute_residuals(
+    px: &[f64],
+    py: &[f64],
+    xi: &[f64],
+    eta: &[f64],
+    wcs: &[f64],
+    x: &mut [f64],
+    y: &mut [f64],
+    all: &mut [f64],
+    residuals: &mut u64,
+) -> u32
+    ensures number { λ r. ⌜ r ≡ answerNumber
+        (residualsFace (rows (now (px .entry)) (now (py .entry)) (now (xi .entry)) (now (eta .entry))) (now (wcs .entry)) (length (now (x .entry))) (length (now (y .entry))) (length (now (all .entry)))) ⌝ }
+    ensures x { λ r. ⌜ now (x .exit) ≡ lentAfter
+        (residualsFace (rows (now (px .entry)) (now (py .entry)) (now (xi .entry)) (now (eta .entry))) (now (wcs .entry)) (length (now (x .entry))) (length (now (y .entry))) (length (now (all .entry))))
+        (residualsX (rows (now (px .entry)) (now (py .entry)) (now (xi .entry)) (now (eta .entry))) (wcsIn (now (wcs .entry))))
+        (now (x .entry)) ⌝ }
+    ensures y { λ r. ⌜ now (y .exit) ≡ lentAfter
+        (residualsFace (rows (now (px .entry)) (now (py .entry)) (now (xi .entry)) (now (eta .entry))) (now (wcs .entry)) (length (now (x .entry))) (length (now (y .entry))) (length (now (all .entry))))
+        (residualsY (rows (now (px .entry)) (now (py .entry)) (now (xi .entry)) (now (eta .entry))) (wcsIn (now (wcs .entry))))
+        (now (y .entry)) ⌝ }
+    ensures all { λ r. ⌜ now (all .exit) ≡ lentAfter
+        (residualsFace (rows (now (px .entry)) (now (py .entry)) (now (xi .entry)) (now (eta .entry))) (now (wcs .entry)) (length (now (x .entry))) (length (now (y .entry))) (length (now (all .entry))))
+        (residualsPx (rows (now (px .entry)) (now (py .entry)) (now (xi .entry)) (now (eta .entry))) (wcsIn (now (wcs .entry))))
+        (now (all .entry)) ⌝ }
+    ensures residuals { λ r. ⌜ now (residuals .exit) ≡ numberAfter
+        (residualsFace (rows (now (px .entry)) (now (py .entry)) (now (xi .entry)) (now (eta .entry))) (now (wcs .entry)) (length (now (x .entry))) (length (now (y .entry))) (length (now (all .entry))))
+        (foundOf (wcsIn (now (wcs .entry))) (length (now (px .entry))))
+        (now (residuals .entry)) ⌝ }
+{
+    cd_face::compute_residuals(px, py, xi, eta, wcs, x, y, all, residuals)
+}
+
+#[no_mangle]
+pub extern "C" fn moorspindle_rms_error(errors: &[f64], rms: &mut f64) -> u32
+    ensures number { λ r. ⌜ r ≡ answerNumber (rmsFace (now (errors .entry))) ⌝ }
+    ensures rms { λ r. ⌜ now (rms .exit) ≡ valueAfter (rmsFace (now (errors .entry))) (rmsValue (now (errors .entry))) (now (rms .entry)) ⌝ }
+{
+    cd_face::rms_error(errors, rms)
+}
+
+#[no_mangle]
+pub extern "C" fn moorspindle_weighted_rms_error(
+    errors: &[f64],
+    weights: &[f64],
+    rms: &mut f64,
+) -> u32
+    ensures number { λ r. ⌜ r ≡ answerNumber (weightedFace (now (errors .entry)) (now (weights .entry))) ⌝ }
+    ensures rms { λ r. ⌜ now (rms .exit) ≡ valueAfter
+        (weightedFace (now (errors .entry)) (now (weights .entry)))
+        (weightedValue (now (errors .entry)) (now (weights .entry)))
+        (now (rms .entry)) ⌝ }
+{
+    cd_face::weighted_rms_error(errors, weights, rms)
+}
+
+#[no_mangle]
+pub extern "C" fn moorspindle_solve_normal_equations(
+    a: &[f64],
+    b: &[f64],
+    n: u32,
+    x: &mut [f64],
+) -> u32
+    ensures number { λ r. ⌜ r ≡ answerNumber (normalAnswer (now (a .entry)) (now (b .entry)) n (length (now (x .entry)))) ⌝ }
+    ensures x { λ r. ⌜ now (x .exit) ≡ lentAfter
+        (normalAnswer (now (a .entry)) (now (b .entry)) n (length (now (x .entry))))
+        (unknownsOf (normalSolved (now (a .entry)) (now (b .entry)) n))
+        (now (x .entry)) ⌝ }
+{
+    cd_face::solve_normal_equations(a, b, n, x)
 }

@@ -4,11 +4,12 @@ use crate::bench::Row;
 use crate::case::{Answer, Case, Kind};
 use crate::random::Random;
 
+mod cd;
 mod floats;
 mod matching;
 mod quad;
 
-pub const GROUPS: &[Group] = &[floats::GROUP, quad::GROUP, matching::GROUP];
+pub const GROUPS: &[Group] = &[floats::GROUP, quad::GROUP, matching::GROUP, cd::GROUP];
 
 /// A call of Moorspindle's, its cases, and the two sources of its answers.
 pub struct Call {

@@ -1,10 +1,10 @@
 //! hash_index.rs, aggregate.rs and verify.rs behind Moorspindle's signatures.
 
 use celestial_catalog::query::{ConeSearchResult, Quad, QuadStar, StarRecord};
-use celestial_solver::Row;
 use celestial_solver::detect::DetectedStar;
 use celestial_solver::match_field::{self, QuadMatch, StarPair};
 
+use super::rows::{few_and_even, rows_of};
 use super::{COUNT, DEGENERATE, LENGTHS, PLACE, ROOM, VALUE};
 use super::{Tested, is_finite, is_limit, is_position, is_snr, number, put, refuse};
 use crate::case::bits;
@@ -184,18 +184,4 @@ pub fn verify_pairs(rows: Rows, score: &mut u64) -> u32 {
         *score = match_field::verify_pairs(&rows_of(rows)?) as u64;
         Ok(())
     })
-}
-
-fn few_and_even(rows: Rows) -> Tested<()> {
-    let [px, py, xi, eta] = rows.map(<[f64]>::len);
-    refuse(COUNT, [px, py, xi, eta].into_iter().any(|n| n > MOST))?;
-    refuse(LENGTHS, py != px || xi != px || eta != px)
-}
-
-/// The rows of four lists, which must be positions and as many.
-fn rows_of(rows: Rows) -> Tested<Vec<Row>> {
-    few_and_even(rows)?;
-    refuse(VALUE, rows.into_iter().flatten().any(|&x| !is_position(x)))?;
-    let [px, py, xi, eta] = rows;
-    Ok((0..px.len()).map(|i| (px[i], py[i], xi[i], eta[i])).collect())
 }

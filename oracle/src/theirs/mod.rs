@@ -2,8 +2,10 @@
 //! written out, in the order of their numbers; past them the answer is the Rust's own, put into
 //! what was lent.
 
+pub mod cd;
 pub mod matching;
 pub mod quad;
+mod rows;
 
 /// The number of the first refusal, or what was asked for.
 type Tested<T> = Result<T, u32>;
@@ -35,6 +37,11 @@ fn is_finite(x: f64) -> bool {
 /// -0.0 is one.
 fn is_snr(x: f64) -> bool {
     (0.0..=1_048_576.0).contains(&x)
+}
+
+/// 0 to 2^40; -0.0 is one.
+fn is_weight(x: f64) -> bool {
+    (0.0..=1_099_511_627_776.0).contains(&x)
 }
 
 /// A least spine or an error limit; -0.0 is one.

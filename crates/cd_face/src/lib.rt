@@ -1,0 +1,229 @@
+// The solvers for C: each call answers its number, and writes its result into what is lent.
+use cd_fit::CdFit;
+use cd_plate::Cd;
+use cd_residuals::Residuals;
+use cd_residuals::Wcs;
+use cd_rms::Rms;
+use domain::Answer;
+use domain::Refusal;
+ghost use mathlib.Core.Path.{_≡_};
+ghost use Prim.Native.Nat.{_≤_};
+ghost use lib.ListN.{length};
+ghost use Rattle.domain.specs.Answers.{answerNumber, roomFor, lentAfter, numberAfter};
+ghost use Rattle.rows.specs.Rows.{rows};
+ghost use Rattle.cd_fit.specs.Fit.{fitAnswer};
+ghost use Rattle.cd_normal.specs.Normal.{normalSolved, unknownsOf, normalAnswer};
+ghost use Rattle.cd_residuals.specs.Residuals.{residualsX, residualsY, residualsPx, foundOf};
+ghost use Rattle.cd_face.specs.Face.{cdNumbers, fitFace, fitWritten, weightedFit, cdIn, wcsIn, errorsFace, errorsWritten, residualsFace, valueAfter, rmsFace, rmsValue, weightedFace, weightedValue};
+
+// The CD that six numbers make.
+fn cd_in(m: &[f64]) -> Cd
+    requires { ⌜ 6 ≤ length (now m) ⌝ }
+    ensures { λ r. ⌜ r ≡ cdIn (now (m .entry)) ⌝ }
+{
+    Cd {
+        cd1_1: m[0],
+        cd1_2: m[1],
+        xi0: m[2],
+        cd2_1: m[3],
+        cd2_2: m[4],
+        eta0: m[5],
+    }
+}
+
+// The WCS that six numbers make.
+fn wcs_in(m: &[f64]) -> Wcs
+    requires { ⌜ 6 ≤ length (now m) ⌝ }
+    ensures { λ r. ⌜ r ≡ wcsIn (now (m .entry)) ⌝ }
+{
+    Wcs {
+        crpix1: m[0],
+        crpix2: m[1],
+        cd1_1: m[2],
+        cd1_2: m[3],
+        cd2_1: m[4],
+        cd2_2: m[5],
+    }
+}
+
+// Writes the six numbers of a CD into the front of a list that has the room.
+fn put_cd(out: &mut [f64], m: Cd) -> Answer
+    ensures answer { λ r. ⌜ r ≡ roomFor 6 (length (now (out .entry))) ⌝ }
+    ensures after { λ r. ⌜ now (out .exit) ≡ lentAfter (roomFor 6 (length (now (out .entry)))) (cdNumbers m) (now (out .entry)) ⌝ }
+{
+    if out.len() < 6 {
+        return Answer::Refused(Refusal::Room);
+    }
+    out[0] = m.cd1_1;
+    out[1] = m.cd1_2;
+    out[2] = m.xi0;
+    out[3] = m.cd2_1;
+    out[4] = m.cd2_2;
+    out[5] = m.eta0;
+    Answer::Done
+}
+
+// What a fit comes to in a list that may lack room.
+fn put_fit(fit: CdFit, cd: &mut [f64]) -> u32
+    ensures number { λ r. ⌜ r ≡ answerNumber (fitFace fit (length (now (cd .entry)))) ⌝ }
+    ensures cd { λ r. ⌜ now (cd .exit) ≡ lentAfter (fitFace fit (length (now (cd .entry)))) (fitWritten fit) (now (cd .entry)) ⌝ }
+{
+    match fit {
+        CdFit::Refused(why) => {
+            let room = domain::room_for(6, cd.len());
+            domain::in_turn(why, room).number()
+        }
+        CdFit::Plate(m) => put_cd(cd, m).number(),
+    }
+}
+
+// The CD of the rows that are on.
+pub fn fit_cd_matrix_6(
+    px: &[f64],
+    py: &[f64],
+    xi: &[f64],
+    eta: &[f64],
+    mask: &[u8],
+    cd: &mut [f64],
+) -> u32
+    ensures number { λ r. ⌜ r ≡ answerNumber (fitFace (fitAnswer (rows (now (px .entry)) (now (py .entry)) (now (xi .entry)) (now (eta .entry))) (now (mask .entry))) (length (now (cd .entry)))) ⌝ }
+    ensures cd { λ r. ⌜ now (cd .exit) ≡ lentAfter
+        (fitFace (fitAnswer (rows (now (px .entry)) (now (py .entry)) (now (xi .entry)) (now (eta .entry))) (now (mask .entry))) (length (now (cd .entry))))
+        (fitWritten (fitAnswer (rows (now (px .entry)) (now (py .entry)) (now (xi .entry)) (now (eta .entry))) (now (mask .entry))))
+        (now (cd .entry)) ⌝ }
+{
+    put_fit(cd_fit::fit_cd_matrix_6(px, py, xi, eta, mask), cd)
+}
+
+// The same with a weight for each row.
+pub fn fit_cd_weighted(
+    px: &[f64],
+    py: &[f64],
+    xi: &[f64],
+    eta: &[f64],
+    mask: &[u8],
+    weights: &[f64],
+    cd: &mut [f64],
+) -> u32
+    ensures number { λ r. ⌜ r ≡ answerNumber (fitFace (weightedFit (rows (now (px .entry)) (now (py .entry)) (now (xi .entry)) (now (eta .entry))) (now (mask .entry)) (now (weights .entry))) (length (now (cd .entry)))) ⌝ }
+    ensures cd { λ r. ⌜ now (cd .exit) ≡ lentAfter
+        (fitFace (weightedFit (rows (now (px .entry)) (now (py .entry)) (now (xi .entry)) (now (eta .entry))) (now (mask .entry)) (now (weights .entry))) (length (now (cd .entry))))
+        (fitWritten (weightedFit (rows (now (px .entry)) (now (py .entry)) (now (xi .entry)) (now (eta .entry))) (now (mask .entry)) (now (weights .entry))))
+        (now (cd .entry)) ⌝ }
+{
+    put_fit(cd_fit::fit_cd_weighted(px, py, xi, eta, mask, weights), cd)
+}
+
+// The error of each row in pixels under a CD of six numbers.
+pub fn compute_pixel_errors(
+    px: &[f64],
+    py: &[f64],
+    xi: &[f64],
+    eta: &[f64],
+    mask: &[u8],
+    cd: &[f64],
+    errors: &mut [f64],
+) -> u32
+    ensures number { λ r. ⌜ r ≡ answerNumber
+        (errorsFace (rows (now (px .entry)) (now (py .entry)) (now (xi .entry)) (now (eta .entry))) (now (mask .entry)) (now (cd .entry)) (length (now (errors .entry)))) ⌝ }
+    ensures errors { λ r. ⌜ now (errors .exit) ≡ lentAfter
+        (errorsFace (rows (now (px .entry)) (now (py .entry)) (now (xi .entry)) (now (eta .entry))) (now (mask .entry)) (now (cd .entry)) (length (now (errors .entry))))
+        (errorsWritten (rows (now (px .entry)) (now (py .entry)) (now (xi .entry)) (now (eta .entry))) (now (mask .entry)) (now (cd .entry)))
+        (now (errors .entry)) ⌝ }
+{
+    if cd.len() != 6 {
+        if cd_plate::few_masked(px, py, xi, eta, mask) {
+            return Refusal::Lengths.number();
+        }
+        return Refusal::Count.number();
+    }
+    cd_errors::compute_pixel_errors(px, py, xi, eta, mask, cd_in(cd), errors).number()
+}
+
+// The residuals of rows in degrees under a WCS of six numbers, and how many they are.
+pub fn compute_residuals(
+    px: &[f64],
+    py: &[f64],
+    xi: &[f64],
+    eta: &[f64],
+    wcs: &[f64],
+    x: &mut [f64],
+    y: &mut [f64],
+    all: &mut [f64],
+    residuals: &mut u64,
+) -> u32
+    ensures number { λ r. ⌜ r ≡ answerNumber
+        (residualsFace (rows (now (px .entry)) (now (py .entry)) (now (xi .entry)) (now (eta .entry))) (now (wcs .entry)) (length (now (x .entry))) (length (now (y .entry))) (length (now (all .entry)))) ⌝ }
+    ensures x { λ r. ⌜ now (x .exit) ≡ lentAfter
+        (residualsFace (rows (now (px .entry)) (now (py .entry)) (now (xi .entry)) (now (eta .entry))) (now (wcs .entry)) (length (now (x .entry))) (length (now (y .entry))) (length (now (all .entry))))
+        (residualsX (rows (now (px .entry)) (now (py .entry)) (now (xi .entry)) (now (eta .entry))) (wcsIn (now (wcs .entry))))
+        (now (x .entry)) ⌝ }
+    ensures y { λ r. ⌜ now (y .exit) ≡ lentAfter
+        (residualsFace (rows (now (px .entry)) (now (py .entry)) (now (xi .entry)) (now (eta .entry))) (now (wcs .entry)) (length (now (x .entry))) (length (now (y .entry))) (length (now (all .entry))))
+        (residualsY (rows (now (px .entry)) (now (py .entry)) (now (xi .entry)) (now (eta .entry))) (wcsIn (now (wcs .entry))))
+        (now (y .entry)) ⌝ }
+    ensures all { λ r. ⌜ now (all .exit) ≡ lentAfter
+        (residualsFace (rows (now (px .entry)) (now (py .entry)) (now (xi .entry)) (now (eta .entry))) (now (wcs .entry)) (length (now (x .entry))) (length (now (y .entry))) (length (now (all .entry))))
+        (residualsPx (rows (now (px .entry)) (now (py .entry)) (now (xi .entry)) (now (eta .entry))) (wcsIn (now (wcs .entry))))
+        (now (all .entry)) ⌝ }
+    ensures residuals { λ r. ⌜ now (residuals .exit) ≡ numberAfter
+        (residualsFace (rows (now (px .entry)) (now (py .entry)) (now (xi .entry)) (now (eta .entry))) (now (wcs .entry)) (length (now (x .entry))) (length (now (y .entry))) (length (now (all .entry))))
+        (foundOf (wcsIn (now (wcs .entry))) (length (now (px .entry))))
+        (now (residuals .entry)) ⌝ }
+{
+    if wcs.len() != 6 {
+        if rows::few_rows(px, py, xi, eta) {
+            return Refusal::Lengths.number();
+        }
+        return Refusal::Count.number();
+    }
+    match cd_residuals::compute_residuals(px, py, xi, eta, wcs_in(wcs), x, y, all) {
+        Residuals::Refused(why) => why.number(),
+        Residuals::Found(count) => {
+            *residuals = count as u64;
+            0
+        }
+    }
+}
+
+// The root mean square of errors.
+pub fn rms_error(errors: &[f64], rms: &mut f64) -> u32
+    ensures number { λ r. ⌜ r ≡ answerNumber (rmsFace (now (errors .entry))) ⌝ }
+    ensures rms { λ r. ⌜ now (rms .exit) ≡ valueAfter (rmsFace (now (errors .entry))) (rmsValue (now (errors .entry))) (now (rms .entry)) ⌝ }
+{
+    match cd_rms::rms_error(errors) {
+        Rms::Refused(why) => why.number(),
+        Rms::Value(value) => {
+            *rms = value;
+            0
+        }
+    }
+}
+
+// The weighted root mean square of errors.
+pub fn weighted_rms_error(errors: &[f64], weights: &[f64], rms: &mut f64) -> u32
+    ensures number { λ r. ⌜ r ≡ answerNumber (weightedFace (now (errors .entry)) (now (weights .entry))) ⌝ }
+    ensures rms { λ r. ⌜ now (rms .exit) ≡ valueAfter
+        (weightedFace (now (errors .entry)) (now (weights .entry)))
+        (weightedValue (now (errors .entry)) (now (weights .entry)))
+        (now (rms .entry)) ⌝ }
+{
+    match cd_rms::weighted_rms_error(errors, weights) {
+        Rms::Refused(why) => why.number(),
+        Rms::Value(value) => {
+            *rms = value;
+            0
+        }
+    }
+}
+
+// The unknowns of n equations, a given row by row.
+pub fn solve_normal_equations(a: &[f64], b: &[f64], n: u32, x: &mut [f64]) -> u32
+    ensures number { λ r. ⌜ r ≡ answerNumber (normalAnswer (now (a .entry)) (now (b .entry)) n (length (now (x .entry)))) ⌝ }
+    ensures x { λ r. ⌜ now (x .exit) ≡ lentAfter
+        (normalAnswer (now (a .entry)) (now (b .entry)) n (length (now (x .entry))))
+        (unknownsOf (normalSolved (now (a .entry)) (now (b .entry)) n))
+        (now (x .entry)) ⌝ }
+{
+    cd_normal::solve_normal_equations(a, b, n as usize, x).number()
+}
