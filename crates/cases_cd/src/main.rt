@@ -103,8 +103,17 @@ fn call_residuals(
     err_px: &mut [f64],
 ) {
     let mut residuals = 0xa5a5a5a5a5a5a5a5u64;
-    let number =
-        cd_face::compute_residuals(px, py, xi, eta, wcs, err_x, err_y, err_px, &mut residuals);
+    let number = cd_face::compute_residuals(
+        px,
+        py,
+        xi,
+        eta,
+        wcs,
+        err_x,
+        err_y,
+        err_px,
+        &mut residuals,
+    );
     cases::print_number(number as u64);
     cases::print_floats(err_x);
     cases::print_floats(err_y);
