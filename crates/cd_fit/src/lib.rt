@@ -89,7 +89,8 @@ fn solve_both(s: Sums) -> CdFit
         s.b,
         s.c,
     ];
-    match elimination::eliminate(&mut m, 3, 5) {
+    let mut held = [0.0; 5];
+    match elimination::eliminate_in(&mut m, 3, 5, &mut held) {
         Eliminated::Stopped(_) => CdFit::Refused(Refusal::Degenerate),
         Eliminated::Reduced => plate_of(&m),
     }

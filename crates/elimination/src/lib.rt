@@ -166,19 +166,29 @@ fn clear_column(m: &mut [f64], n: usize, w: usize, col: usize, held: &mut [f64])
     true
 }
 
-// Reduces the matrix, one column after the other, or stops at the first that has no pivot above the least.
+// Reduces the matrix, one column after the other, or stops at the first that has no pivot above the least. The pivot's row is held in what is lent for it.
+pub fn eliminate_in(m: &mut [f64], n: usize, w: usize, held: &mut [f64]) -> Eliminated
+    requires { ⌜ length (now m) ≡ n * w ⌝ }
+    requires { ⌜ n ≤ w ⌝ }
+    requires { ⌜ w ≤ length (now held) ⌝ }
+    ensures { λ r. ⌜ Agrees (eliminated (cells (now (m .entry)) w) n) r (now (m .exit)) n w ⌝ }
+{
+    for col in 0..n {
+        if !clear_column(m, n, w, col, held) {
+            return Eliminated::Stopped(col);
+        }
+    }
+    Eliminated::Reduced
+}
+
+// The same, with a row of its own for the pivot's.
 pub fn eliminate(m: &mut [f64], n: usize, w: usize) -> Eliminated
     requires { ⌜ length (now m) ≡ n * w ⌝ }
     requires { ⌜ (n ≤ w) × (w ≤ 64) ⌝ }
     ensures { λ r. ⌜ Agrees (eliminated (cells (now (m .entry)) w) n) r (now (m .exit)) n w ⌝ }
 {
     let mut held = [0.0; Eliminated::MOST_COLUMNS];
-    for col in 0..n {
-        if !clear_column(m, n, w, col, &mut held) {
-            return Eliminated::Stopped(col);
-        }
-    }
-    Eliminated::Reduced
+    eliminate_in(m, n, w, &mut held)
 }
 
 // What is left of row i's number in column b once the unknowns behind it are taken away.
