@@ -14,7 +14,7 @@ ghost use Rattle.rows.specs.Rows.{rows};
 ghost use Rattle.cd_fit.specs.Fit.{fitAnswer};
 ghost use Rattle.cd_normal.specs.Normal.{normalSolved, unknownsOf, normalAnswer};
 ghost use Rattle.cd_residuals.specs.Residuals.{residualsX, residualsY, residualsPx, foundOf};
-ghost use Rattle.cd_face.specs.Face.{cdNumbers, fitFace, fitWritten, weightedFit, cdIn, wcsIn, errorsFace, errorsWritten, residualsFace, valueAfter, rmsFace, rmsValue, weightedFace, weightedValue};
+ghost use Rattle.cd_face.specs.Face.{cdNumbers, fitFace, fitWritten, weightedFit, cdIn, wcsIn, errorsFace, errorsWritten, residualsFace, valueAfter, rmsDone, rmsIn, rmsFace, rmsValue, weightedFace, weightedValue};
 
 // The CD that six numbers make.
 fn cd_in(m: &[f64]) -> Cd
@@ -186,18 +186,26 @@ pub fn compute_residuals(
     }
 }
 
-// The root mean square of errors.
-pub fn rms_error(errors: &[f64], rms: &mut f64) -> u32
-    ensures number { λ r. ⌜ r ≡ answerNumber (rmsFace (now (errors .entry))) ⌝ }
-    ensures rms { λ r. ⌜ now (rms .exit) ≡ valueAfter (rmsFace (now (errors .entry))) (rmsValue (now (errors .entry))) (now (rms .entry)) ⌝ }
+// Hands out a root mean square, where there is one.
+fn put_rms(found: Rms, rms: &mut f64) -> u32
+    ensures number { λ r. ⌜ r ≡ answerNumber (rmsDone found) ⌝ }
+    ensures rms { λ r. ⌜ now (rms .exit) ≡ valueAfter (rmsDone found) (rmsIn found) (now (rms .entry)) ⌝ }
 {
-    match cd_rms::rms_error(errors) {
+    match found {
         Rms::Refused(why) => why.number(),
         Rms::Value(value) => {
             *rms = value;
             0
         }
     }
+}
+
+// The root mean square of errors.
+pub fn rms_error(errors: &[f64], rms: &mut f64) -> u32
+    ensures number { λ r. ⌜ r ≡ answerNumber (rmsFace (now (errors .entry))) ⌝ }
+    ensures rms { λ r. ⌜ now (rms .exit) ≡ valueAfter (rmsFace (now (errors .entry))) (rmsValue (now (errors .entry))) (now (rms .entry)) ⌝ }
+{
+    put_rms(cd_rms::rms_error(errors), rms)
 }
 
 // The weighted root mean square of errors.
@@ -208,13 +216,7 @@ pub fn weighted_rms_error(errors: &[f64], weights: &[f64], rms: &mut f64) -> u32
         (weightedValue (now (errors .entry)) (now (weights .entry)))
         (now (rms .entry)) ⌝ }
 {
-    match cd_rms::weighted_rms_error(errors, weights) {
-        Rms::Refused(why) => why.number(),
-        Rms::Value(value) => {
-            *rms = value;
-            0
-        }
-    }
+    put_rms(cd_rms::weighted_rms_error(errors, weights), rms)
 }
 
 // The unknowns of n equations, a given row by row.
