@@ -11,7 +11,7 @@ use Rattle.rows.specs.declared.Row.{Row}
 use Rattle.cd_plate.specs.Masked.{isOn}
 use Rattle.elimination.specs.Elimination.{cells, pivotOf, Singular}
 use Rattle.elimination.proofs.Alike.{Alike, own}
-use Rattle.elimination.proofs.Solved.{same-pivot, same-stop}
+use Rattle.elimination.proofs.Solved.{before, same-pivot, same-pivot-number, same-stop}
 use Rattle.cd_sums.specs.Sums.{Nine, xiOf, etaOf, withRow, withWeighted, stepIf, sumsTo, plainStep, weightedStep, plainSums, weightedSums}
 use Rattle.cd_fit.specs.Fit.{systemOf, axisOf}
 
@@ -79,9 +79,13 @@ module _ (s t : Nine) (h : Shared s t) where
   alike (suc (suc zero)) (suc (suc (suc c))) i j = absurd (omega arith)
   alike (suc (suc (suc r))) c i j = absurd (omega arith)
 
-  -- the first pivot is the same; the columns after it are alike, and so on (elimination's `same-column`)
-  pub axes-pivot : (col : ℕ) → col < 3 → pivotOf (cells (systemOf t) 4) 3 col ≡ pivotOf (cells (systemOf s) 4) 3 col
+  -- the pivot of each column, when those before it are done, is in the same row
+  pub axes-pivot : (col : ℕ) → col < 3 → pivotOf (before (cells (systemOf t) 4) 3 col) 3 col ≡ pivotOf (before (cells (systemOf s) 4) 3 col) 3 col
   axes-pivot = same-pivot 3 (cells (systemOf s) 4) (cells (systemOf t) 4) alike
+
+  -- and is the same number
+  pub axes-pivot-number : (col row : ℕ) → col < 3 → row < 3 → before (cells (systemOf t) 4) 3 col row col ≡ before (cells (systemOf s) 4) 3 col row col
+  axes-pivot-number = same-pivot-number 3 (cells (systemOf s) 4) (cells (systemOf t) 4) alike
 
   -- an axis that is singular at a column has the other singular there
   pub axes-stop : (col : ℕ) → axisOf s ≡ Singular col → axisOf t ≡ Singular col

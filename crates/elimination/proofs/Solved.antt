@@ -1,6 +1,6 @@
 -- What a system comes to: told by its elimination, the same for like matrices, and for each right side as if it stood alone. Assumes nothing.
 -- an elimination that is told to be done: each right side's unknowns are those of the list
-use Prim.Native.Nat.{ℕ, _+_, _<_, _≤_}
+use Prim.Native.Nat.{ℕ, zero, suc, _+_, _<_, _≤_}
 use mathlib.Core.Path.{_≡_, refl, sym, ap, _∙_}
 use mathlib.Core.Bool.{Bool, true, false, cond}
 use mathlib.Core.List.{List}
@@ -68,13 +68,27 @@ each-alone m n b h =
         go true = refl
         go false = refl
 
+-- a matrix after the columns before col
+unfoldable pub before : Matrix → ℕ → ℕ → Matrix
+before m n zero = m
+before m n (suc col) = column (before m n col) n col
+
 -- two systems of one square matrix, such as the two axes: they meet the same pivots, column after column, and stop together
 module _ (n : ℕ) (m g : Matrix) (a : Alike n n own m g) where
-  pub same-pivot : (col : ℕ) → col < n → pivotOf g n col ≡ pivotOf m n col
-  same-pivot col h = pivot-alike n n own (omega arith) (λ x y. refl) (λ x y. y) m g a col _ (omega arith)
+  same-before : (col : ℕ) → col ≤ n → Alike n n own (before m n col) (before g n col)
+  unfolding before
+  same-before zero h = a
+  same-before (suc col) h =
+      column-alike n n own (omega arith) (λ x y. refl) (λ x y. y) (before m n col) (before g n col) (same-before col (omega arith)) col (omega arith)
 
-  pub same-column : (col : ℕ) → col < n → Alike n n own (column m n col) (column g n col)
-  same-column = column-alike n n own (omega arith) (λ x y. refl) (λ x y. y) m g a
+  -- the row of each pivot
+  pub same-pivot : (col : ℕ) → col < n → pivotOf (before g n col) n col ≡ pivotOf (before m n col) n col
+  same-pivot col h =
+      pivot-alike n n own (omega arith) (λ x y. refl) (λ x y. y) (before m n col) (before g n col) (same-before col (omega arith)) col _ (omega arith)
+
+  -- and its number
+  pub same-pivot-number : (col row : ℕ) → col < n → row < n → before g n col row col ≡ before m n col row col
+  same-pivot-number col row h k = same-before col (omega arith) row col k h
 
   pub same-stop : (b d col : ℕ) → solution m n b ≡ Singular col → solution g n d ≡ Singular col
   same-stop b d col = go (eliminated m n) (eliminated g n) (from-alike n n own (omega arith) (λ x y. refl) (λ x y. y) n m g 0 (omega arith) a)
