@@ -18,6 +18,11 @@ fn main() {
     // the number of trials is a parameter of ours
     let trials = [("let max_trials = 1000;", 1, "let max_trials = super::trials::now();")];
     write("cd_matrix_trials.rs", &edited(&cd_matrix, &trials));
+    // libm's root is the hardware's on x86-64 and software on Arm: for the times, each on every host
+    let hardware = [("libm::sqrt(", 7, "f64::sqrt(")];
+    write("cd_matrix_hardware.rs", &edited(&cd_matrix, &hardware));
+    let software = [("libm::sqrt(", 7, "libm_software::sqrt(")];
+    write("cd_matrix_software.rs", &edited(&cd_matrix, &software));
 
     let sip = source("celestial-solver/src/fit_wcs/sip.rs");
     write("sip.rs", &included(&sip));

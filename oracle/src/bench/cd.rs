@@ -50,6 +50,12 @@ pub fn rows(random: &mut Random) -> Vec<Row> {
         Row::over("pixel errors of 100", "the Rust", &plates, |plate| {
             fit_wcs::compute_pixel_errors(&plate.rows, &plate.on, CD)
         }),
+        Row::over("pixel errors of 100", "libm's root in software", &plates, |plate| {
+            fit_wcs::software::compute_pixel_errors(&plate.rows, &plate.on, CD)
+        }),
+        Row::over("pixel errors of 100", "the hardware's root", &plates, |plate| {
+            fit_wcs::hardware::compute_pixel_errors(&plate.rows, &plate.on, CD)
+        }),
     ];
     let names = ["equations, n = 3", "equations, n = 18", "equations, n = 54"];
     for (name, systems) in names.into_iter().zip(systems) {

@@ -21,7 +21,8 @@ mod cd_matrix {
     }
 }
 
-fn params([cd1_1, cd1_2, xi0, cd2_1, cd2_2, eta0]: Cd) -> cd_matrix::CdParams {
+fn params(cd: Cd) -> cd_matrix::CdParams {
+    let [cd1_1, cd1_2, xi0, cd2_1, cd2_2, eta0] = cd;
     cd_matrix::CdParams { cd1_1, cd1_2, xi0, cd2_1, cd2_2, eta0 }
 }
 
@@ -92,6 +93,45 @@ pub fn sigma_clip_loop_weighted(
     *cd = numbers(held);
     plain(done)
 }
+
+/// One text of cd_matrix.rs with a root of its own, and what takes roots in it, to be timed.
+macro_rules! with_root {
+    ($module:ident, $file:literal) => {
+        pub mod $module {
+            use super::{plain, solution, voted, Cd};
+            use crate::{Fit, Row};
+
+            mod text {
+                include!(concat!(env!("OUT_DIR"), $file));
+            }
+
+            pub fn compute_pixel_errors(rows: &[Row], mask: &[bool], cd: Cd) -> Vec<f64> {
+                text::compute_pixel_errors(rows, mask, params(cd))
+            }
+
+            pub fn ransac_fit(rows: &[Row], votes: &[usize], limit: f64) -> Fit<Vec<bool>> {
+                plain(text::ransac_fit(rows, &voted(votes), limit))
+            }
+
+            pub fn sigma_clip_loop_weighted(
+                rows: &[Row],
+                mask: &mut [bool],
+                cd: Cd,
+                weights: &[f64],
+            ) -> Fit<()> {
+                plain(text::sigma_clip_loop_weighted(rows, mask, &mut params(cd), weights))
+            }
+
+            fn params(cd: Cd) -> text::CdParams {
+                let [cd1_1, cd1_2, xi0, cd2_1, cd2_2, eta0] = cd;
+                text::CdParams { cd1_1, cd1_2, xi0, cd2_1, cd2_2, eta0 }
+            }
+        }
+    };
+}
+
+with_root!(hardware, "/cd_matrix_hardware.rs");
+with_root!(software, "/cd_matrix_software.rs");
 
 /// err_x, err_y, err_px of each row.
 pub fn compute_residuals(rows: &[Row], wcs: Wcs) -> Vec<[f64; 3]> {
