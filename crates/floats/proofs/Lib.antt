@@ -5,6 +5,7 @@ pub mod Floors
 pub mod Held
 pub mod Signed
 pub mod Digits
+pub mod Divided
 pub mod Brought
 pub mod Halves
 pub mod Patterns

@@ -60,16 +60,16 @@ pub fn power(u: f64, p: u32) -> f64
     r
 }
 
-// The whole part of the root of m * 2^54, one binary digit a turn.
+// The whole part of the root of m * 2^54: 27 binary digits one by one, the other 27 by a division.
 fn root_digits(m: u64) -> u64
-    requires { ⌜ m < 2 ^ 54 ⌝ }
+    requires { ⌜ (2 ^ 52 ≤ m) × (m < 2 ^ 54) ⌝ }
     ensures { λ r. ⌜ (r * r ≤ m * 2 ^ 54) × (m * 2 ^ 54 < (r + 1) * (r + 1)) ⌝ }
 {
     // q * q + rest * bit is m * 2^54, and the root is below q + bit
     let mut bit: u64 = 0x40_0000_0000_0000;
     let mut rest: u64 = m;
     let mut q: u64 = 0;
-    while bit > 1 {
+    while bit > 0x800_0000 {
         bit = bit / 2;
         rest = rest * 2;
         let t = 2 * q + bit;
@@ -78,7 +78,14 @@ fn root_digits(m: u64) -> u64
             q += bit;
         }
     }
-    q
+    // (q + t)^2 is q^2 + 2qt and t^2 more, which is one digit too many where it is not covered
+    let d = q / 0x400_0000;
+    let t = rest / d;
+    if rest % d * 0x800_0000 < t * t {
+        q + t - 1
+    } else {
+        q + t
+    }
 }
 
 // A number m * 2^e of units of 2^-1126.

@@ -23,7 +23,7 @@ mul-n : tie.Need-mul-n
 mul-n c = search needs
 
 root-digits-requires : tie.Need-root-digits-requires
-root-digits-requires c κs = omega (arith, evened c .high)
+root-digits-requires c κs = (omega (arith, evened c .low), omega (arith, evened c .high))
 
 add-result : tie.Need-add-result
 add-result c = search needs
