@@ -43,7 +43,7 @@ fn hash_at(s: &[u8], at: usize) -> Hash {
 // ---- calls
 
 fn call_find_spine(xs: &[f64], ys: &[f64], f: Four, spine: &mut [u8]) {
-    let number = quad_face::find_spine(xs, ys, f.a, f.b, f.c, f.d, spine);
+    let number = spine_face::find_spine(xs, ys, f.a, f.b, f.c, f.d, spine);
     cases::print_number(number as u64);
     cases::print_bytes(spine);
     cases::print_end();
@@ -67,7 +67,7 @@ fn call_orient_spine(s: &[u8], at: usize, pair: &mut [u8]) {
     let bx = cases::float_at(s, cases::field(s, at, 3));
     let by = cases::float_at(s, cases::field(s, at, 4));
     let b = cases::byte_at(s, cases::field(s, at, 5));
-    let number = quad_face::orient_spine(ax, ay, a, bx, by, b, pair);
+    let number = spine_face::orient_spine(ax, ay, a, bx, by, b, pair);
     cases::print_number(number as u64);
     cases::print_bytes(pair);
     cases::print_end();
@@ -80,7 +80,7 @@ fn orient_spine(s: &[u8], at: usize) {
 }
 
 fn call_normalize(xs: &[f64], ys: &[f64], f: Four, hash: &mut [f64], places: &mut [u8]) {
-    let number = quad_face::normalize_quad_ordered(xs, ys, f.a, f.b, f.c, f.d, hash, places);
+    let number = spine_face::normalize_quad_ordered(xs, ys, f.a, f.b, f.c, f.d, hash, places);
     cases::print_number(number as u64);
     cases::print_floats(hash);
     cases::print_bytes(places);

@@ -10,9 +10,8 @@ ghost use Rattle.domain.specs.Answers.{answerNumber, lentAfter, numberAfter};
 ghost use Rattle.quad_key.specs.Key.{keyOf, neighbourKeys, keysAnswer};
 ghost use Rattle.rows.specs.Rows.{rows};
 ghost use Rattle.quad.specs.Quads.{quadsAnswer, quadPlaces, quadHashes};
-ghost use Rattle.quad_face.specs.Face.{spineFace, spineWritten, star, orientFace, orientWritten, normalFace};
-ghost use Rattle.quad_face.specs.Face.{hashWritten, placesWritten, startFace, startWritten, stepPlaces, stepBytes, stepGiven};
-ghost use Rattle.quad_face.specs.Face.{stepFrom, nextFace, quadsCount, quadsFace, hashFrom};
+ghost use Rattle.spine_face.specs.Face.{spineFace, spineWritten, star, orientFace, orientWritten, normalFace, hashWritten, placesWritten};
+ghost use Rattle.quad_face.specs.Face.{startFace, startWritten, stepPlaces, stepBytes, stepGiven, stepFrom, nextFace, quadsCount, quadsFace, hashFrom};
 ghost use Rattle.hash_index.specs.Matches.{matchesOf};
 ghost use Rattle.aggregate.specs.Extract.{given, room, pairXs, pairYs, pairRas, pairDecs, pairVotes, pairSnrs};
 ghost use Rattle.matching_face.specs.Face.{matchesFace, matchesCount, pairsFace, pairsCount};
@@ -71,7 +70,7 @@ pub extern "C" fn moorspindle_find_spine(
         (spineWritten (now (xs .entry)) (now (ys .entry)) p0 p1 p2 p3)
         (now (spine .entry)) ⌝ }
 {
-    quad_face::find_spine(xs, ys, p0, p1, p2, p3, spine)
+    spine_face::find_spine(xs, ys, p0, p1, p2, p3, spine)
 }
 
 #[no_mangle]
@@ -90,7 +89,7 @@ pub extern "C" fn moorspindle_orient_spine(
         (orientWritten (star ax ay a) (star bx by b))
         (now (pair .entry)) ⌝ }
 {
-    quad_face::orient_spine(ax, ay, a, bx, by, b, pair)
+    spine_face::orient_spine(ax, ay, a, bx, by, b, pair)
 }
 
 #[no_mangle]
@@ -115,7 +114,7 @@ pub extern "C" fn moorspindle_normalize_quad_ordered(
         (placesWritten (now (xs .entry)) (now (ys .entry)) a b c d)
         (now (places .entry)) ⌝ }
 {
-    quad_face::normalize_quad_ordered(xs, ys, a, b, c, d, hash, places)
+    spine_face::normalize_quad_ordered(xs, ys, a, b, c, d, hash, places)
 }
 
 #[no_mangle]

@@ -1,9 +1,9 @@
--- `quad_face::find_spine` meets its contract: a refusal keeps the list, and a spine goes where there is room. Assumes nothing.
+-- `spine_face::find_spine` meets its contract: a refusal keeps the list, and a spine goes where there is room. Assumes nothing.
 use Rattle.domain.specs.Answers.{answerNumber}
 use mathlib.Core.Path.{refl, ap, _∙_}
 use borrow.Author.Needs.{needs}
-use Rattle.quad_face.proofs.find_spine.Statement.{statement}
-use Rattle.quad_face.proofs.find_spine.Tie as tie
+use Rattle.spine_face.proofs.find_spine.Statement.{statement}
+use Rattle.spine_face.proofs.find_spine.Tie as tie
 
 find-spine-requires : tie.Need-find-spine-requires
 find-spine-requires c κs = search needs

@@ -1,11 +1,11 @@
--- `quad_face::put_hash` meets its contract: four stores from the front are what is written. Assumes nothing.
+-- `spine_face::put_hash` meets its contract: four stores from the front are what is written. Assumes nothing.
 use Rattle.domain.proofs.Lent.{front}
-use Rattle.quad_face.specs.Face.{hashNumbers}
+use Rattle.spine_face.specs.Face.{hashNumbers}
 use lib.ListN.{length-set}
 use native.Mathlib.Omega.{arith}
 use borrow.Author.Needs.{needs}
-use Rattle.quad_face.proofs.put_hash.Statement.{statement}
-use Rattle.quad_face.proofs.put_hash.Tie as tie
+use Rattle.spine_face.proofs.put_hash.Statement.{statement}
+use Rattle.spine_face.proofs.put_hash.Tie as tie
 
 slice-write-out : tie.Need-slice-write-out
 slice-write-out c = search needs

@@ -1,4 +1,4 @@
--- `quad_face::put_four` meets its contract: a list without room stays, and four stores from the front are what is written. Assumes nothing.
+-- `spine_face::put_four` meets its contract: a list without room stays, and four stores from the front are what is written. Assumes nothing.
 use Rattle.domain.proofs.Lent.{front}
 use mathlib.Core.List.{[], _∷_}
 use lib.ListN.{length-set}
@@ -6,8 +6,8 @@ use native.Mathlib.Omega.{arith}
 use mathlib.Core.Path.{refl}
 use borrow.Author.Tests.{lt-ltb, le-ltb}
 use borrow.Author.Needs.{needs}
-use Rattle.quad_face.proofs.put_four.Statement.{statement}
-use Rattle.quad_face.proofs.put_four.Tie as tie
+use Rattle.spine_face.proofs.put_four.Statement.{statement}
+use Rattle.spine_face.proofs.put_four.Tie as tie
 
 returns : tie.Need-returns
 returns c = rw (lt-ltb _ _ (c .if1 .taken)) (refl, refl)

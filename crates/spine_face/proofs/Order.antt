@@ -14,7 +14,7 @@ use Rattle.domain.specs.declared.Answer.the-variants as answer
 use Rattle.quad_spine.specs.declared.Scaled.{Scaled}
 use Rattle.quad_spine.specs.declared.Scaled.the-variants as scaled
 use Rattle.quad_spine.specs.Spine.{starsAnswer, placesAnswer, fourAnswer, fourAt, normalOf, normalAfter, normalAnswer}
-use Rattle.quad_face.specs.Face.{quadRoom, normalDone, normalFace}
+use Rattle.spine_face.specs.Face.{quadRoom, normalDone, normalFace}
 
 -- done, or refused by a number below 7
 early : Answer → Bool

@@ -1,12 +1,12 @@
--- `quad_face::normalize_quad_ordered` meets its contract: a refusal keeps both lists, and a quad goes where there is room. Assumes nothing.
-use Rattle.quad_face.specs.Face.{quadRoom}
+-- `spine_face::normalize_quad_ordered` meets its contract: a refusal keeps both lists, and a quad goes where there is room. Assumes nothing.
+use Rattle.spine_face.specs.Face.{quadRoom}
 use lib.ListN.{length}
 use Rattle.domain.proofs.Lent.{stays}
 use Rattle.domain.specs.Answers.{answerNumber, inTurn}
 use mathlib.Core.Path.{ap, _∙_}
 use borrow.Author.Needs.{needs}
-use Rattle.quad_face.proofs.normalize_quad_ordered.Statement.{statement}
-use Rattle.quad_face.proofs.normalize_quad_ordered.Tie as tie
+use Rattle.spine_face.proofs.normalize_quad_ordered.Statement.{statement}
+use Rattle.spine_face.proofs.normalize_quad_ordered.Tie as tie
 
 normalize-quad-ordered-requires : tie.Need-normalize-quad-ordered-requires
 normalize-quad-ordered-requires c κs = search needs

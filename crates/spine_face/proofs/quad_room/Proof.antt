@@ -1,8 +1,8 @@
--- `quad_face::quad_room` meets its contract. Assumes nothing.
+-- `spine_face::quad_room` meets its contract. Assumes nothing.
 use borrow.Author.Tests.{lt-ltb, le-ltb}
 use borrow.Author.Needs.{needs}
-use Rattle.quad_face.proofs.quad_room.Statement.{statement}
-use Rattle.quad_face.proofs.quad_room.Tie as tie
+use Rattle.spine_face.proofs.quad_room.Statement.{statement}
+use Rattle.spine_face.proofs.quad_room.Tie as tie
 
 returns : tie.Need-returns
 returns c = rw (lt-ltb _ _ (c .if1 .taken))

@@ -1,9 +1,9 @@
--- `quad_face::put_quad` meets its contract: either list without room leaves both, else both are written. Assumes nothing.
+-- `spine_face::put_quad` meets its contract: either list without room leaves both, else both are written. Assumes nothing.
 use mathlib.Core.Path.{refl}
 use borrow.Author.Tests.{lt-ltb, le-ltb}
 use borrow.Author.Needs.{needs}
-use Rattle.quad_face.proofs.put_quad.Statement.{statement}
-use Rattle.quad_face.proofs.put_quad.Tie as tie
+use Rattle.spine_face.proofs.put_quad.Statement.{statement}
+use Rattle.spine_face.proofs.put_quad.Tie as tie
 
 returns : tie.Need-returns
 returns c = rw (lt-ltb _ _ (c .if1 .taken)) (refl, (refl, refl))

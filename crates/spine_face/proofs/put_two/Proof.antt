@@ -1,11 +1,11 @@
--- `quad_face::put_two` meets its contract: a list without room stays, and two stores from the front are what is written. Assumes nothing.
+-- `spine_face::put_two` meets its contract: a list without room stays, and two stores from the front are what is written. Assumes nothing.
 use Rattle.domain.proofs.Lent.{front}
 use mathlib.Core.List.{[], _∷_}
 use mathlib.Core.Path.{refl}
 use borrow.Author.Tests.{lt-ltb, le-ltb}
 use borrow.Author.Needs.{needs}
-use Rattle.quad_face.proofs.put_two.Statement.{statement}
-use Rattle.quad_face.proofs.put_two.Tie as tie
+use Rattle.spine_face.proofs.put_two.Statement.{statement}
+use Rattle.spine_face.proofs.put_two.Tie as tie
 
 returns : tie.Need-returns
 returns c = rw (lt-ltb _ _ (c .if1 .taken)) (refl, refl)

@@ -1,9 +1,9 @@
--- `quad_face::orient_spine` meets its contract: a refusal keeps the list, and a pair goes where there is room. Assumes nothing.
+-- `spine_face::orient_spine` meets its contract: a refusal keeps the list, and a pair goes where there is room. Assumes nothing.
 use Rattle.domain.specs.Answers.{answerNumber}
 use mathlib.Core.Path.{refl, ap, _∙_}
 use borrow.Author.Needs.{needs}
-use Rattle.quad_face.proofs.orient_spine.Statement.{statement}
-use Rattle.quad_face.proofs.orient_spine.Tie as tie
+use Rattle.spine_face.proofs.orient_spine.Statement.{statement}
+use Rattle.spine_face.proofs.orient_spine.Tie as tie
 
 orient-spine-requires : tie.Need-orient-spine-requires
 orient-spine-requires c κs = search needs
