@@ -14,7 +14,11 @@ infinity = 0x7ff0_0000_0000_0000
 abbrev pub isWithin : Float → ℕ → Bool
 isWithin limit bits = le (rootOf (ofBits binary64 bits)) limit
 
--- the square is the greatest f64 whose root is at most the limit: that of the next f64 is not
-pub record IsReach (r : Reach) : Type 0 where
-  pub within : le (rootOf (r .square)) (r .limit) ≡ true
-  pub past : le (rootOf (nextUp (r .square))) (r .limit) ≡ false
+-- the greatest f64 whose root is at most the limit: that of the next f64 is not
+pub record IsLast (limit last : Float) : Type 0 where
+  pub within : le (rootOf last) limit ≡ true
+  pub past : le (rootOf (nextUp last)) limit ≡ false
+
+-- the square is that of the limit
+abbrev pub IsReach : Reach → Type 0
+IsReach r = IsLast (r .limit) (r .square)

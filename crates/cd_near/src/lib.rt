@@ -12,7 +12,7 @@ ghost use Rattle.domain.specs.Domain.{isLimit};
 ghost use Rattle.rows.specs.Rows.{rows};
 ghost use Rattle.cd_plate.specs.Plate.{errorOf};
 ghost use Rattle.cd_mask.specs.Marks.{byteOf};
-ghost use Rattle.cd_near.specs.Reach.{isWithin, infinity, IsReach};
+ghost use Rattle.cd_near.specs.Reach.{infinity, isWithin, IsLast, IsReach};
 ghost use Rattle.cd_near.specs.Near.{nearMarks, nearCount};
 
 // The pattern of the infinity.
@@ -62,10 +62,10 @@ fn high_bits(limit: f64, bits: u64) -> u64
     bits
 }
 
-// The last pattern within the limit, between one that is and one that is not.
-fn last_bits(limit: f64, low: u64, high: u64) -> u64
+// The greatest f64 whose root is at most the limit, between a pattern within it and one past it.
+fn last_within(limit: f64, low: u64, high: u64) -> f64
     requires { ⌜ low < high ⌝ ∗ ⌜ high ≤ infinity ⌝ ∗ ⌜ isWithin limit low ≡ true ⌝ ∗ ⌜ isWithin limit high ≡ false ⌝ }
-    ensures { λ r. ⌜ (r < infinity) × (isWithin limit r ≡ true) × (isWithin limit (r + 1) ≡ false) ⌝ }
+    ensures { λ r. ⌜ IsLast limit r ⌝ }
 {
     let mut within = low;
     let mut past = high;
@@ -77,7 +77,7 @@ fn last_bits(limit: f64, low: u64, high: u64) -> u64
             past = middle;
         }
     }
-    within
+    f64::from_bits(within)
 }
 
 // A limit of errors, and the greatest f64 whose root is at most the limit.
@@ -95,10 +95,9 @@ impl Reach {
         let start = start_bits(limit);
         let low = low_bits(limit, start);
         let high = high_bits(limit, start + 3);
-        let last = last_bits(limit, low, high);
         Reach {
             limit,
-            square: f64::from_bits(last),
+            square: last_within(limit, low, high),
         }
     }
 
@@ -132,8 +131,9 @@ pub fn count_near(px: &[f64], py: &[f64], xi: &[f64], eta: &[f64], m: Cd, reach:
     ensures { λ r. ⌜ r ≡ nearCount (rows (now (px .entry)) (now (py .entry)) (now (xi .entry)) (now (eta .entry))) (reach .limit) m ⌝ }
 {
     let v = m.inverse();
+    let n = px.len();
     let mut count = 0usize;
-    for i in 0..px.len() {
+    for i in 0..n {
         count += one_if(reach.is_near(v, rows::row_at(px, py, xi, eta, i)));
     }
     count

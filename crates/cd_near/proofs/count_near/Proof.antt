@@ -15,10 +15,10 @@ use Rattle.cd_near.proofs.count_near.Statement.{statement}
 use Rattle.cd_near.proofs.count_near.Tie as tie
 
 abbrev Inv-loop : tie.InvT-loop
-Inv-loop px py xi eta reach v count₀ i₀ i-end count i = (i-end ≡ length px) × (i ≤ i-end) × (count ≡ ones (marks (nearBy (rows px py xi eta) (reach .limit) v) i))
+Inv-loop px py xi eta reach v n count₀ i₀ count i = (n ≡ length px) × (i ≤ n) × (count ≡ ones (marks (nearBy (rows px py xi eta) (reach .limit) v) i))
 
 abbrev μ-loop : tie.MeasureT-loop
-μ-loop px py xi eta reach v count₀ i₀ i-end count i = i-end - i
+μ-loop px py xi eta reach v n count₀ i₀ count i = n - i
 
 -- the test of the loop's rows
 abbrev test : (c : tie.At-loop Inv-loop μ-loop) → ℕ → Bool

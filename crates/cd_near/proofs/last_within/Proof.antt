@@ -1,12 +1,14 @@
--- `cd_near::last_bits` meets its contract: the one end stays within and the other past the limit until nothing is between them. Assumes nothing.
+-- `cd_near::last_within` meets its contract: one end stays within the limit and the other past it until nothing is between them. Assumes nothing.
 use Rattle.cd_near.specs.Reach.{infinity, isWithin}
-use mathlib.Core.Path.{_≡_, _∙_, sym, subst}
+use Rattle.floats.proofs.Ranks.{next-pattern}
+use Rattle.cd_near.proofs.Ends.{no-nan}
+use mathlib.Core.Path.{_≡_, _∙_, sym, ap}
 use mathlib.Core.Bool.{true, false}
 use Prim.Native.Nat.{ℕ, _+_, _-_, _≤_, _<_}
 use native.Mathlib.Omega.{arith}
 use borrow.Author.Needs.{needs}
-use Rattle.cd_near.proofs.last_bits.Statement.{statement}
-use Rattle.cd_near.proofs.last_bits.Tie as tie
+use Rattle.cd_near.proofs.last_within.Statement.{statement}
+use Rattle.cd_near.proofs.last_within.Tie as tie
 
 abbrev Inv-loop : tie.InvT-loop
 Inv-loop limit low high within₀ past₀ within past = (within < past) × (past ≤ infinity) × (isWithin limit within ≡ true) × (isWithin limit past ≡ false)
@@ -41,14 +43,20 @@ loop-less-2 c = search needs
 loop-again-2 : tie.Need-loop-again-2 Inv-loop μ-loop
 loop-again-2 c = (omega arith, omega arith, search needs, sym (c .before .is-within .ensures) ∙ c .if1 .left)
 
+float-from-bits-result : tie.Need-float-from-bits-result Inv-loop μ-loop
+float-from-bits-result c = no-nan _ (omega arith)
+
 returns : tie.Need-returns Inv-loop μ-loop
 returns c =
     let l = c .before .loop in
-    let e : l .past ≡ l .within + 1 = omega arith in
-    (omega arith, l .inv .2, subst (λ (b : ℕ). isWithin (c .before .before .args .limit) b ≡ false) e (l .inv .3))
+    let side : l .within + 1 ≡ l .past = omega arith in
+    record {
+      within = l .inv .2;
+      past = rw (next-pattern (l .within) (omega arith), side) (l .inv .3);
+    }
 
-pub last-bits-spec : {M : Type 1} → statement M
-last-bits-spec =
+pub last-within-spec : {M : Type 1} → statement M
+last-within-spec =
     tie.close
     (tie.spec
     Inv-loop
@@ -62,4 +70,5 @@ last-bits-spec =
     loop-again
     loop-less-2
     loop-again-2
+    float-from-bits-result
     returns)
