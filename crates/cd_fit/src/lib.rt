@@ -69,7 +69,7 @@ fn plate_of(m: &[f64]) -> CdFit
 }
 
 // The plate of the sums: one elimination for both axes, which share the matrix.
-fn solve_both(s: Sums) -> CdFit
+pub fn solve_both(s: Sums) -> CdFit
     ensures { λ r. ⌜ r ≡ fitOf (xiPart s) (etaPart s) ⌝ }
 {
     let mut m = [
@@ -113,7 +113,7 @@ fn check_masked(px: &[f64], py: &[f64], xi: &[f64], eta: &[f64], mask: &[u8]) ->
 }
 
 // The tests of rows with a mask and weights, in their order.
-fn check_weighed(
+pub fn check_weighed(
     px: &[f64],
     py: &[f64],
     xi: &[f64],

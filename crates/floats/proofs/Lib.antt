@@ -16,3 +16,4 @@ pub mod Cases
 pub mod Laws
 pub mod Ranks
 pub mod Threshold
+pub mod Squares

@@ -345,3 +345,21 @@ next t f (number p) = inr (rw (next-is t p) (go (ℕ-discrete (suc (rank t)) 0x7
     go : Dec (suc (rank t) ≡ 0x7ff0_0000_0000_0000) → Next t (ofBits binary64 (suc (rank t)))
     go (yes e) = subst (λ (v : Float). Next t v) (sym (ap (ofBits binary64) e ∙ after-top)) (record { held = inf-fits binary64 false; up = infinity; one = rank-inf ∙ sym e })
     go (no n) = after-pattern t (rank t) refl (less (rank t) (rank-under t f p) n)
+
+-- ---- and the next pattern
+
+at-zero : nextUp (ofBits binary64 0) ≡ ofBits binary64 1
+unfolding nextUp ofBits
+at-zero = refl
+
+pub next-pattern : (b : ℕ) → b < 0x7ff0_0000_0000_0000 → nextUp (ofBits binary64 b) ≡ ofBits binary64 (b + 1)
+next-pattern zero h = at-zero
+next-pattern (suc b) h =
+    let v = ofBits binary64 (suc b) in
+    let o = of-pattern (suc b) h in
+    let p : T (positive v) = positive-of-value v (unitsAt (suc b)) (2 ^ 1074) (o .1) (lt-of-le-of-lt zero-le (one-more b)) in
+    let e : suc (suc b) ≡ suc b + 1 = omega arith in
+    next-is v p ∙ ap (λ (k : ℕ). ofBits binary64 (suc k)) (rank-is v p ∙ toBits-ofBits binary64 (suc b) (go b h) (finite-no-nan v (o .0))) ∙ ap (ofBits binary64) e
+  where
+    go : (b : ℕ) → suc b < 9218868437227405312 → suc b < 18446744073709551616
+    go b h = omega arith

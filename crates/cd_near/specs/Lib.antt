@@ -1,0 +1,3 @@
+pub mod Near
+pub mod Reach
+pub mod Examples
