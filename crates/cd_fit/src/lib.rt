@@ -69,7 +69,7 @@ fn plate_of(m: &[f64]) -> CdFit
 }
 
 // The plate of the sums: one elimination for both axes, which share the matrix.
-fn solve_both(s: Sums) -> CdFit
+pub fn solve_both(s: Sums) -> CdFit
     ensures { λ r. ⌜ r ≡ fitOf (xiPart s) (etaPart s) ⌝ }
 {
     let mut m = [

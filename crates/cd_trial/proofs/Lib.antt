@@ -1,0 +1,2 @@
+pub mod Triples
+pub mod Fits
