@@ -11,9 +11,9 @@ use Rattle.rows.specs.declared.Row.{Row}
 use Rattle.cd_plate.specs.declared.Cd.{Cd}
 use Rattle.cd_plate.specs.declared.Inverse.{Inverse}
 use Rattle.cd_plate.specs.Plate.{inverseOf, errorOf}
-use Rattle.cd_mask.specs.Marks.{byteOf, marks, ones}
+use Rattle.cd_mask.specs.Marks.{byteOf, marks}
 use Rattle.cd_mask.proofs.Marking.{length-marks, mark-turn}
-use Rattle.cd_near.specs.Near.{nearMarks, nearCount}
+use Rattle.cd_near.specs.Near.{nearMarks}
 
 -- the test of a row's place, by an inverse
 abbrev pub near : Rows → Float → Inverse → ℕ → Bool

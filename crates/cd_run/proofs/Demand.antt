@@ -6,7 +6,7 @@ use mathlib.Core.Option.{Option, some, none}
 use Prim.Native.Nat.{ℕ, _≤_, _<_}
 use native.Mathlib.Omega.{arith}
 use lib.Dec.{ltb}
-use lib.ListN.{length, take, replicate, length-replicate}
+use lib.ListN.{length, take, length-replicate}
 use lib.Seq.{take-at}
 use lib.Ieee.{Float}
 use borrow.Author.Tests.{ltb-true, ltb-false}
@@ -29,7 +29,7 @@ use Rattle.cd_trial.proofs.Determinant.{Exceeds, places-exceed, again-exceeds, 
 use Rattle.cd_run.specs.declared.CdRun.{CdRun}
 use Rattle.cd_run.specs.declared.CdRun.the-variants as run
 use Rattle.cd_run.specs.Run.{Outcome, refused, untested, fitted, heldEnd, poolEnd, afterTests, endAnswer, endMask}
-use Rattle.cd_run.specs.Demand.{Drawn, Fittable, OfRun, FittedBest, AllOn, NoneHasThree}
+use Rattle.cd_run.specs.Demand.{Drawn, OfRun, FittedBest, AllOn, NoneHasThree}
 
 -- an end is one of the three
 pub refused-not-fitted : {why : Refusal} {m : Cd} → refused why ≡ fitted m → ⊥

@@ -1,5 +1,5 @@
 -- More trials still answer fitted, with no fewer rows on. Assumes nothing.
-use mathlib.Core.Path.{_≡_, refl, sym, ap, _∙_}
+use mathlib.Core.Path.{_≡_, refl, ap}
 use mathlib.Core.List.{List}
 use mathlib.Core.Option.{Option, some, none}
 use Prim.Native.Nat.{ℕ, _+_, _≤_}
@@ -17,7 +17,6 @@ use Rattle.cd_plate.specs.declared.Cd.{Cd}
 use Rattle.cd_pool.specs.Pool.{poolOf}
 use Rattle.cd_near.specs.Near.{nearCount}
 use Rattle.cd_trial.specs.Trial.{startWord, fitTriple, fitAgain, bestOf}
-use Rattle.cd_run.specs.declared.CdRun.{CdRun}
 use Rattle.cd_run.specs.declared.CdRun.the-variants as run
 use Rattle.cd_run.specs.Run.{testsOf, Outcome, refused, untested, fitted, heldEnd, poolEnd, afterTests, runEnd, endAnswer, runAnswer}
 use Rattle.cd_run.proofs.Ending.{tests-again}

@@ -1,7 +1,7 @@
 -- The fits of a trial, from the sums that the code makes. Assumes nothing.
 use mathlib.Core.Path.{_≡_, refl, sym, ap, _∙_}
-use mathlib.Core.Bool.{Bool, true, false}
-use mathlib.Core.List.{List, _++_}
+use mathlib.Core.Bool.{true, false}
+use mathlib.Core.List.{List}
 use mathlib.Core.Option.{Option, some, none}
 use Prim.Native.Nat.{ℕ, _<_}
 use lib.ListN.{length, take}
@@ -16,7 +16,7 @@ use Rattle.draw.specs.Best.{count}
 use Rattle.cd_plate.specs.declared.Cd.{Cd}
 use Rattle.cd_mask.proofs.Marking.{length-marks}
 use Rattle.cd_sums.specs.declared.Sums.{Sums}
-use Rattle.cd_sums.specs.Sums.{Nine, xiOf, etaOf, threeSums, plainSums}
+use Rattle.cd_sums.specs.Sums.{xiOf, etaOf, threeSums, plainSums}
 use Rattle.cd_sums.specs.Both.{xiPart, etaPart, Both}
 use Rattle.cd_sums.proofs.Three.{three-on}
 use Rattle.cd_fit.specs.Fit.{fitOf}

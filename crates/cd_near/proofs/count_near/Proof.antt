@@ -1,29 +1,17 @@
+-- `cd_near::count_near` meets its contract: after i rows the count is that of the first i. Assumes nothing.
 use Rattle.cd_near.proofs.Nears.{near, near-all, byte-at}
 use Rattle.cd_near.specs.Near.{nearMarks}
 use Rattle.cd_mask.proofs.Marking.{byte-small, ones-one, ones-le}
 use Rattle.cd_mask.specs.Marks.{marks, ones}
-use Rattle.cd_plate.specs.declared.Inverse.{Inverse}
-use Rattle.cd_plate.specs.Plate.{errorOf}
-use Rattle.rows.specs.Rows.{Rows, rows, rowAt}
-use lib.Ieee.{le, Float}
+use Rattle.rows.specs.Rows.{rows}
 use denote.Ref.{now}
-use borrow.Author.Tests.{eq-eqb, ne-eqb, lt-ltb, le-ltb, le-leb, lt-leb, not-true, not-false}
-use lib.ListN.{length, length-set, take, drop, getD}
+use lib.ListN.{length}
 use native.Mathlib.Omega.{arith}
-use native.Mathlib.Numerals.{add-one}
-use mathlib.Core.List.{_++_}
-use mathlib.Core.Logic.{⊎-elim}
-use mathlib.Core.Bool.{true, false, Bool}
-use mathlib.Core.Path.{_≡_, _∙_, refl, sym, ap}
-use Prim.Native.Nat.{_≤_, _<_, _+_, _-_, _*_, ℕ}
+use mathlib.Core.Path.{_≡_, _∙_}
+use Prim.Native.Nat.{_≤_, _-_}
 use borrow.Author.Needs.{needs}
 use Rattle.cd_near.proofs.count_near.Statement.{statement}
 use Rattle.cd_near.proofs.count_near.Tie as tie
-use Rattle.cd_near.proofs.count_near.Reads as reads
-use Rattle.cd_near.proofs.count_near.Lts as lts
-use Rattle.cd_near.proofs.byte_of.Reads as byte-of-reads
-use Rattle.cd_plate.proofs.Cd.inverse.Reads as inverse-reads
-use Rattle.rows.proofs.row_at.Reads as row-at-reads
 
 abbrev Inv-loop : tie.InvT-loop
 Inv-loop px py xi eta limit v count₀ i₀ i-end count i = (i-end ≡ length px) × (i ≤ i-end) × (count ≡ ones (marks (near (rows px py xi eta) limit v) i))
@@ -31,28 +19,22 @@ Inv-loop px py xi eta limit v count₀ i₀ i-end count i = (i-end ≡ length px
 abbrev μ-loop : tie.MeasureT-loop
 μ-loop px py xi eta limit v count₀ i₀ i-end count i = i-end - i
 
--- src/lib.rt:27:9
 inverse-requires : tie.Need-inverse-requires Inv-loop μ-loop
 inverse-requires c κs = search needs
 
--- src/lib.rt:29:5
 loop-holds : tie.Need-loop-holds Inv-loop μ-loop
 unfolding marks ones
 loop-holds c = search needs
 
--- src/lib.rt:30:29
 row-at-requires : tie.Need-row-at-requires Inv-loop μ-loop
 row-at-requires c κs = search needs
 
--- src/lib.rt:30:18
 byte-of-requires : tie.Need-byte-of-requires Inv-loop μ-loop
 byte-of-requires c κs = search needs
 
--- src/lib.rt:30:18
 cast-count : tie.Need-cast-count Inv-loop μ-loop
 cast-count c = search needs
 
--- src/lib.rt:30:9
 add-count : tie.Need-add-count Inv-loop μ-loop
 add-count c =
     let a = c .before .before .before .before .before .before .before .before .before .args in
@@ -62,15 +44,12 @@ add-count c =
     let e = byte-at r (a .limit) v (l .i) _ _ (c .before .row-at .ensures) (c .byte-of .ensures) in
     omega (arith, ones-le (near r (a .limit) v) (l .i), byte-small (near r (a .limit) v (l .i)) e)
 
--- src/lib.rt:29:9
 add-i : tie.Need-add-i Inv-loop μ-loop
 add-i c = search needs
 
--- src/lib.rt:29:5
 loop-less : tie.Need-loop-less Inv-loop μ-loop
 loop-less c = search needs
 
--- src/lib.rt:29:5
 loop-again : tie.Need-loop-again Inv-loop μ-loop
 loop-again c =
     let a = c .before .before .before .before .before .before .before .before .before .args in
@@ -80,7 +59,6 @@ loop-again c =
     let e = byte-at r (a .limit) v (l .i) _ _ (c .before .row-at .ensures) (c .byte-of .ensures) in
     (search needs, search needs, omega (arith, ones-one (near r (a .limit) v) (l .i), e))
 
--- src/lib.rt:23:1
 returns : tie.Need-returns Inv-loop μ-loop
 unfolding nearMarks
 returns c =

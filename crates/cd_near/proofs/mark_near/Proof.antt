@@ -1,29 +1,16 @@
+-- `cd_near::mark_near` meets its contract: after i rows the first i bytes are theirs. Assumes nothing.
 use Rattle.cd_near.proofs.Nears.{near, near-turn, near-done, byte-at}
-use Rattle.cd_near.specs.Near.{nearMarks}
-use Rattle.cd_mask.proofs.Marking.{mark-turn, length-marks}
 use Rattle.cd_mask.specs.Marks.{marks}
-use Rattle.cd_plate.specs.declared.Inverse.{Inverse}
-use Rattle.cd_plate.specs.Plate.{errorOf}
-use Rattle.rows.specs.Rows.{Rows, rows, rowAt}
-use lib.Ieee.{le, Float}
+use Rattle.rows.specs.Rows.{rows}
 use denote.Ref.{now}
-use borrow.Author.Tests.{eq-eqb, ne-eqb, lt-ltb, le-ltb, le-leb, lt-leb, not-true, not-false}
-use lib.ListN.{length, length-set, take, drop, getD}
+use lib.ListN.{length, length-set, drop}
 use native.Mathlib.Omega.{arith}
-use native.Mathlib.Numerals.{add-one}
 use mathlib.Core.List.{_++_}
-use mathlib.Core.Logic.{⊎-elim}
-use mathlib.Core.Bool.{true, false, Bool}
-use mathlib.Core.Path.{_≡_, _∙_, refl, sym, ap}
-use Prim.Native.Nat.{_≤_, _<_, _+_, _-_, _*_, ℕ}
+use mathlib.Core.Path.{_≡_}
+use Prim.Native.Nat.{_≤_, _-_}
 use borrow.Author.Needs.{needs}
 use Rattle.cd_near.proofs.mark_near.Statement.{statement}
 use Rattle.cd_near.proofs.mark_near.Tie as tie
-use Rattle.cd_near.proofs.mark_near.Reads as reads
-use Rattle.cd_near.proofs.mark_near.Lts as lts
-use Rattle.cd_near.proofs.byte_of.Reads as byte-of-reads
-use Rattle.cd_plate.proofs.Cd.inverse.Reads as inverse-reads
-use Rattle.rows.proofs.row_at.Reads as row-at-reads
 
 abbrev Inv-loop : tie.InvT-loop
 Inv-loop px py xi eta limit mask₀ v i₀ i-end mask i = (i-end ≡ length px) × (i ≤ i-end) × (length mask ≡ length mask₀) × (mask ≡ marks (near (rows px py xi eta) limit v) i ++ drop i mask₀)
@@ -31,36 +18,28 @@ Inv-loop px py xi eta limit mask₀ v i₀ i-end mask i = (i-end ≡ length px) 
 abbrev μ-loop : tie.MeasureT-loop
 μ-loop px py xi eta limit mask₀ v i₀ i-end mask i = i-end - i
 
--- src/lib.rt:50:9
 inverse-requires : tie.Need-inverse-requires Inv-loop μ-loop
 inverse-requires c κs = search needs
 
--- src/lib.rt:51:5
 loop-holds : tie.Need-loop-holds Inv-loop μ-loop
 unfolding marks
 loop-holds c = search needs
 
--- src/lib.rt:52:30
 row-at-requires : tie.Need-row-at-requires Inv-loop μ-loop
 row-at-requires c κs = search needs
 
--- src/lib.rt:52:19
 byte-of-requires : tie.Need-byte-of-requires Inv-loop μ-loop
 byte-of-requires c κs = search needs
 
--- src/lib.rt:52:9
 slice-write-mask : tie.Need-slice-write-mask Inv-loop μ-loop
 slice-write-mask c = search needs
 
--- src/lib.rt:51:9
 add-i : tie.Need-add-i Inv-loop μ-loop
 add-i c = search needs
 
--- src/lib.rt:51:5
 loop-less : tie.Need-loop-less Inv-loop μ-loop
 loop-less c = search needs
 
--- src/lib.rt:51:5
 loop-again : tie.Need-loop-again Inv-loop μ-loop
 loop-again c =
     let a = c .before .before .before .before .before .before .before .before .before .before .args in
@@ -70,11 +49,9 @@ loop-again c =
     let e = byte-at r (a .limit) v (l .i) _ _ (c .before .row-at .ensures) (c .byte-of .ensures) in
     (search needs, search needs, simp length-set (l .inv .2), near-turn r (a .limit) v (now (a .mask)) _ (l .i) _ (omega arith) (l .inv .3) e)
 
--- src/lib.rt:36:1
 same-length : tie.Need-same-length Inv-loop μ-loop
 same-length c = search needs
 
--- src/lib.rt:36:1
 returns : tie.Need-returns Inv-loop μ-loop
 returns c =
     let l = c .before .loop in

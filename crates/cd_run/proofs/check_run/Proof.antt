@@ -1,51 +1,36 @@
+-- `cd_run::check_run` meets its contract: each test has its own return. Assumes nothing.
 use Rattle.cd_run.specs.Run.{testsOf}
 use borrow.Author.Needs.{needs}
 use Rattle.cd_run.proofs.check_run.Statement.{statement}
 use Rattle.cd_run.proofs.check_run.Tie as tie
-use Rattle.cd_run.proofs.check_run.Reads as reads
-use Rattle.cd_run.proofs.check_run.Lts as lts
-use Rattle.domain.proofs.is_limit.Reads as is-limit-reads
-use Rattle.domain.proofs.room_for.Reads as room-for-reads
-use Rattle.rows.proofs.even_rows.Reads as even-rows-reads
-use Rattle.rows.proofs.few_rows.Reads as few-rows-reads
-use Rattle.rows.proofs.position_rows.Reads as position-rows-reads
 
--- src/lib.rt:53:10
 few-rows-requires : tie.Need-few-rows-requires
 few-rows-requires c κs = search needs
 
--- src/lib.rt:54:9
 returns : tie.Need-returns
 unfolding testsOf
 returns c = rw (← c .before .few-rows .ensures, c .if1 .taken)
 
--- src/lib.rt:56:9
 even-rows-requires : tie.Need-even-rows-requires
 even-rows-requires c κs = search needs
 
--- src/lib.rt:57:9
 returns-2 : tie.Need-returns-2
 unfolding testsOf
 returns-2 c = rw (← c .before .before .before .few-rows .ensures, c .before .before .if1 .left, ← c .before .even-rows .ensures, c .if2 .taken)
 
--- src/lib.rt:59:10
 position-rows-requires : tie.Need-position-rows-requires
 position-rows-requires c κs = search needs
 
--- src/lib.rt:59:49
 is-limit-requires : tie.Need-is-limit-requires
 is-limit-requires c κs = search needs
 
--- src/lib.rt:60:9
 returns-3 : tie.Need-returns-3
 unfolding testsOf
 returns-3 c = rw (← c .before .before .before .before .before .before .few-rows .ensures, c .before .before .before .before .before .if1 .left, ← c .before .before .before .before .even-rows .ensures, c .before .before .before .if2 .left, ← c .before .before .position-rows .ensures, ← c .before .is-limit .ensures, c .if3 .taken)
 
--- src/lib.rt:62:5
 room-for-requires : tie.Need-room-for-requires
 room-for-requires c κs = search needs
 
--- src/lib.rt:41:1
 returns-4 : tie.Need-returns-4
 unfolding testsOf
 returns-4 c = rw (← c .before .before .before .before .before .before .before .few-rows .ensures, c .before .before .before .before .before .before .if1 .left, ← c .before .before .before .before .before .even-rows .ensures, c .before .before .before .before .if2 .left, ← c .before .before .before .position-rows .ensures, ← c .before .before .is-limit .ensures, c .before .if3 .left) (c .room-for .ensures)
