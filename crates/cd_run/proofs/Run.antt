@@ -1,9 +1,10 @@
 -- The whole run, from its tests and its pool. Assumes nothing.
 use mathlib.Core.Path.{_≡_, refl}
 use mathlib.Core.List.{List}
-use Prim.Native.Nat.{ℕ}
-use lib.ListN.{length}
+use Prim.Native.Nat.{ℕ, _<_}
+use lib.ListN.{length, replicate}
 use lib.Ieee.{Float}
+use Rattle.domain.specs.Answers.{written}
 use Rattle.domain.specs.declared.Refusal.{Refusal}
 use Rattle.domain.specs.declared.Answer.the-variants as answer
 use Rattle.rows.specs.Rows.{Rows, count}
@@ -11,7 +12,7 @@ use Rattle.cd_pool.specs.Pool.{poolOf}
 use Rattle.cd_run.specs.declared.CdRun.{CdRun}
 use Rattle.cd_run.specs.declared.CdRun.the-variants as run
 use Rattle.cd_run.specs.Run.{testsOf, poolEnd, runEnd, endAnswer, endMask, runAnswer, maskAfter}
-use Rattle.cd_run.proofs.Ending.{tests-not-nine}
+use Rattle.cd_run.proofs.Ending.{tests-not-nine, small-pool}
 use Rattle.cd_run.proofs.Demand.{Kept, kept}
 
 module _ (r : Rows) (votes : List ℕ) (limit : Float) (trials : ℕ) (old : List ℕ) where
@@ -36,3 +37,9 @@ module _ (r : Rows) (votes : List ℕ) (limit : Float) (trials : ℕ) (old : Lis
       → (v : CdRun) (mask : List ℕ) → v ≡ endAnswer r limit (poolEnd r limit pool trials) → mask ≡ endMask r limit (poolEnd r limit pool trials) old → Promised v mask
   unfolding runEnd
   run-done e pool p v mask a m = promised v mask (rw (e, ← p) a) (rw (e, ← p) m)
+
+  -- with a pool under three, a run that the tests do not refuse is untested, and the byte of every row is one
+  pub under-three : testsOf r (length votes) limit trials (length old) ≡ answer.Done → length (poolOf votes (count r)) < 3
+      → (runAnswer r votes limit trials (length old) ≡ run.Untested (count r)) × (maskAfter r votes limit trials old ≡ written (replicate (count r) 1) old)
+  unfolding runEnd
+  under-three e h = rw (e, small-pool r limit (poolOf votes (count r)) trials h) (refl, refl)

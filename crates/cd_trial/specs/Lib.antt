@@ -1,2 +1,3 @@
 pub mod Trial
 pub mod Held
+pub mod Examples
