@@ -16,6 +16,11 @@ turn : (step : ℕ → Nine → Nine) (mask : List ℕ) (i : ℕ) (f : Nine → 
 unfolding sumsTo
 turn step mask i f s t inv e h = h ∙ rw (add-one i, inv, e)
 
+-- one row more, added to sums that are known
+pub row-again : (row : Row) (s t : Sums) {xi eta : Nine} → Both s xi eta → Both t (withRow xiOf row (xiPart s)) (withRow etaOf row (etaPart s))
+    → Both t (withRow xiOf row xi) (withRow etaOf row eta)
+row-again row s t b h = record { of-xi = h .of-xi ∙ ap (withRow xiOf row) (b .of-xi); of-eta = h .of-eta ∙ ap (withRow etaOf row) (b .of-eta) }
+
 pub plain-again : (r : Rows) (mask : List ℕ) (i : ℕ) (s t : Sums) (row : Row) → Both s (plainSums r mask xiOf i) (plainSums r mask etaOf i) → row ≡ rowAt r i
     → Both t (stepIf (isOn mask i) (withRow xiOf row) (xiPart s)) (stepIf (isOn mask i) (withRow etaOf row) (etaPart s))
     → Both t (plainSums r mask xiOf (i + 1)) (plainSums r mask etaOf (i + 1))

@@ -92,6 +92,10 @@ unfoldable pub sumsTo : (ℕ → Nine → Nine) → List ℕ → ℕ → Nine
 sumsTo step mask zero = noRows
 sumsTo step mask (suc k) = stepIf (isOn mask k) (step k) (sumsTo step mask k)
 
+-- the sums of three rows alone
+abbrev pub threeSums : (Row → Float) → Row → Row → Row → Nine
+threeSums axis p q r = withRow axis r (withRow axis q (withRow axis p noRows))
+
 -- the row at a place, added
 abbrev pub plainStep : Rows → (Row → Float) → ℕ → Nine → Nine
 plainStep r axis k = withRow axis (rowAt r k)

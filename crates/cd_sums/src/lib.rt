@@ -3,7 +3,7 @@ use rows::Row;
 ghost use mathlib.Core.Path.{_≡_};
 ghost use lib.ListN.{length};
 ghost use Rattle.rows.specs.Rows.{rows};
-ghost use Rattle.cd_sums.specs.Sums.{xiOf, etaOf, noRows, withRow, withWeighted, stepIf, plainSums, weightedSums};
+ghost use Rattle.cd_sums.specs.Sums.{xiOf, etaOf, noRows, withRow, withWeighted, stepIf, threeSums, plainSums, weightedSums};
 ghost use Rattle.cd_sums.specs.Both.{xiPart, etaPart, Both};
 
 // Six sums of the matrix, which the axes share; three of the right side of xi; three of that of eta.
@@ -119,6 +119,13 @@ pub fn sum_rows(px: &[f64], py: &[f64], xi: &[f64], eta: &[f64], mask: &[u8]) ->
         s = s.with_row_if(mask[i] == 1, rows::row_at(px, py, xi, eta, i));
     }
     s
+}
+
+// The sums of three rows.
+pub fn sum_three(p: Row, q: Row, r: Row) -> Sums
+    ensures { λ s. ⌜ Both s (threeSums xiOf p q r) (threeSums etaOf p q r) ⌝ }
+{
+    Sums::new().with_row(p).with_row(q).with_row(r)
 }
 
 // The weighted sums of the rows that are on.

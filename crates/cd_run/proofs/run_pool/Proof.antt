@@ -1,0 +1,69 @@
+-- `cd_run::run_pool` meets its contract: each return has its end, and a refusal keeps the mask. Assumes nothing.
+use Rattle.cd_run.proofs.Ending.{ended, small-pool, none-held, few-held, three-held, held-on}
+use Rattle.cd_run.specs.declared.CdRun.the-variants.{Fitted}
+use Rattle.cd_trial.specs.Trial.{modelOf}
+use Rattle.rows.specs.Rows.{rows}
+use denote.Ref.{now}
+use native.Mathlib.Omega.{arith}
+use mathlib.Core.Path.{refl, ap}
+use borrow.Author.Needs.{needs}
+use Rattle.cd_run.proofs.run_pool.Statement.{statement}
+use Rattle.cd_run.proofs.run_pool.Tie as tie
+
+fill-ones-requires : tie.Need-fill-ones-requires
+fill-ones-requires c κs = search needs
+
+same-length : tie.Need-same-length
+same-length c = search needs
+
+returns : tie.Need-returns
+returns c = ended _ _ _ _ _ _ _ (small-pool _ _ _ _ (c .before .before .before .before .if1 .taken)) refl (c .before .before .fill-ones .ensures)
+
+search-requires : tie.Need-search-requires
+search-requires c κs =
+    let h = c .before .before .before .before .before .before .before .pre in
+    (h .0, (h .1 .0, (h .1 .1 .0, (h .1 .1 .1 .0, record { some-place = omega (arith, c .if1 .left); has-row = h .1 .1 .1 .1 .1 }))))
+
+enum-told : tie.Need-enum-told
+enum-told c = search needs
+
+enum-known-f : tie.Need-enum-known-f
+enum-known-f c = search needs
+
+returns-2 : tie.Need-returns-2
+returns-2 c = ended _ _ _ _ _ _ _ (few-held _ _ _ _ (c .before .before .before .before .search .result) (c .before .before .before .before .search .ensures) (c .before .before .before .before .before .if1 .left) _ (ap modelOf (c .before .before .f .given .1)) (c .if2 .taken)) refl refl
+
+mark-near-requires : tie.Need-mark-near-requires
+mark-near-requires c κs = search needs
+
+returns-3 : tie.Need-returns-3
+returns-3 c = ended _ _ _ _ _ _ _ (none-held _ _ _ _ (c .before .before .search .result) (c .before .before .search .ensures) (c .before .before .before .if1 .left) (ap modelOf (c .enum-told .given .1))) refl refl
+
+same-length-2 : tie.Need-same-length-2
+same-length-2 c = search needs
+
+returns-4 : tie.Need-returns-4
+returns-4 c =
+    let a = c .before .before .before .before .before .before .before .before .before .before .before .before .before .before .before .before .args in
+    let r = rows (now (a .px)) (now (a .py)) (now (a .xi)) (now (a .eta)) in
+    let s = c .before .before .before .before .before .before .before .before .search in
+    let p = c .before .before .before .before .before .before .before .before .before .if1 .left in
+    let e = ap modelOf (c .before .before .before .before .before .before .f .given .1) in
+    let on = held-on r (a .limit) (now (a .pool)) (a .trials) (s .result) (s .ensures) p _ e in
+    ended _ _ _ _ _ _ _ (three-held r (a .limit) (now (a .pool)) (a .trials) (s .result) (s .ensures) p _ e (c .before .before .before .before .if2 .left)) (ap Fitted on) (c .before .before .mark-near .ensures)
+
+pub run-pool-spec : {M : Type 1} → statement M
+run-pool-spec =
+    tie.close
+    (tie.spec
+    fill-ones-requires
+    same-length
+    returns
+    search-requires
+    enum-told
+    enum-known-f
+    returns-2
+    mark-near-requires
+    returns-3
+    same-length-2
+    returns-4)

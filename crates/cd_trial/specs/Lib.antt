@@ -1,0 +1,3 @@
+pub mod Trial
+pub mod Held
+pub mod Examples
