@@ -24,13 +24,14 @@ use Rattle.cd_run.specs.declared.CdRun.{CdRun}
 use Rattle.cd_run.specs.Run.{testsOf, Outcome, refused, untested, fitted, heldEnd, poolEnd, endAnswer, endMask}
 
 -- ---- what a run is like whose tests are done
-pub record Passed (r : Rows) (votes trials places : ℕ) : Type 0 where
+pub record Passed (r : Rows) (votes : ℕ) (limit : Float) (trials places : ℕ) : Type 0 where
   pub few-rows : count r ≤ 100
   pub few-votes : votes ≤ 100
   pub py-long : length (r .py) ≡ count r
   pub xi-long : length (r .xi) ≡ count r
   pub eta-long : length (r .eta) ≡ count r
   pub room : count r ≤ places
+  pub limit-good : isLimit limit ≡ true
 
 module _ (r : Rows) (votes : ℕ) (limit : Float) (trials places : ℕ) where
   -- each test by itself
@@ -56,7 +57,7 @@ module _ (r : Rows) (votes : ℕ) (limit : Float) (trials places : ℕ) where
         room = passed (ltb places (count r)) _ _ (h .1) .0;
       }
 
-  pub tests-passed : testsOf r votes limit trials places ≡ answer.Done → Passed r votes trials places
+  pub tests-passed : testsOf r votes limit trials places ≡ answer.Done → Passed r votes limit trials places
   tests-passed e =
       let t = tests e in
       let pixels = and-eq-true-iff (leb (length (r .px)) 100 && leb (length (r .py)) 100) _ .0 (t .few) .0 in
@@ -69,6 +70,7 @@ module _ (r : Rows) (votes : ℕ) (limit : Float) (trials places : ℕ) where
         xi-long = eqb-true _ _ (plane .0);
         eta-long = eqb-true _ _ (plane .1);
         room = ltb-false _ _ (t .room);
+        limit-good = and-eq-true-iff (positionRows r) _ .0 (t .good) .1;
       }
 
   -- any other number of trials that is in its limit passes too

@@ -61,11 +61,11 @@ both-skipped = refl
 
 -- the third trial fits the three corners, and the fourth row is off
 third-fits : runAnswer corners (3 ∷ 3 ∷ 3 ∷ 0 ∷ []) half 3 4 ≡ Fitted 3
-unfolding runEnd testsOf poolEnd heldEnd poolOf placesFrom leastOf greatest triples tripleAfter nextWord run keep keepIf improved fitPlaces fitMarked fitAgain tripleMarks nearMarks marks ones fitOf plateFit determinantOf inverseOf squareOf rootOf sumsTo pivotRow eliminateFrom rowLess unknownsTo magnitudeOf positionRows every ofBits add sub mul div neg lt le eq
+unfolding runEnd testsOf poolEnd heldEnd poolOf placesFrom leastOf greatest triples tripleAfter nextWord run keep keepIf improved fitPlaces fitMarked fitAgain tripleMarks marks ones fitOf plateFit determinantOf inverseOf squareOf rootOf sumsTo pivotRow eliminateFrom rowLess unknownsTo magnitudeOf positionRows every ofBits add sub mul div neg lt le eq
 third-fits = refl
 
 third-mask : maskAfter corners (3 ∷ 3 ∷ 3 ∷ 0 ∷ []) half 3 sevens ≡ 1 ∷ 1 ∷ 1 ∷ 0 ∷ 7 ∷ []
-unfolding runEnd testsOf poolEnd heldEnd poolOf placesFrom leastOf greatest triples tripleAfter nextWord run keep keepIf improved fitPlaces fitMarked fitAgain tripleMarks nearMarks marks ones fitOf plateFit determinantOf inverseOf squareOf rootOf sumsTo pivotRow eliminateFrom rowLess unknownsTo magnitudeOf positionRows every ofBits add sub mul div neg lt le eq
+unfolding runEnd testsOf poolEnd heldEnd poolOf placesFrom leastOf greatest triples tripleAfter nextWord run keep keepIf improved fitPlaces fitMarked fitAgain tripleMarks marks ones fitOf plateFit determinantOf inverseOf squareOf rootOf sumsTo pivotRow eliminateFrom rowLess unknownsTo magnitudeOf positionRows every ofBits add sub mul div neg lt le eq
 third-mask = refl
 
 -- the refusals in their order; the mask stays

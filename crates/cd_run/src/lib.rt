@@ -1,11 +1,14 @@
 // The CD run: of the plates of a fixed draw, the one that the most rows are near to.
 use cd_fit::CdFit;
+use cd_near::Reach;
 use cd_plate::Cd;
 use domain::Answer;
 use domain::Refusal;
 ghost use mathlib.Core.Path.{_≡_};
+ghost use mathlib.Core.Bool.{true};
 ghost use Prim.Native.Nat.{ℕ, _<_, _≤_};
 ghost use lib.ListN.{length, getD, replicate};
+ghost use Rattle.domain.specs.Domain.{isLimit};
 ghost use Rattle.rows.specs.Rows.{rows};
 ghost use Rattle.cd_pool.specs.Pool.{poolOf};
 ghost use Rattle.cd_run.specs.Run.{testsOf, poolEnd, endAnswer, endMask, runAnswer, maskAfter, runNumber};
@@ -74,7 +77,7 @@ fn run_pool(
     mask: &mut [u8],
 ) -> CdRun
     requires { ⌜ length (now py) ≡ length (now px) ⌝ ∗ ⌜ length (now xi) ≡ length (now px) ⌝ ∗ ⌜ length (now eta) ≡ length (now px) ⌝ }
-    requires { ⌜ length (now px) ≤ 100 ⌝ ∗ ⌜ length (now px) ≤ length (now mask) ⌝
+    requires { ⌜ length (now px) ≤ 100 ⌝ ∗ ⌜ length (now px) ≤ length (now mask) ⌝ ∗ ⌜ isLimit limit ≡ true ⌝
         ∗ ⌜ ((k : ℕ) → k < length (now pool) → getD (now pool) k 0 < length (now px)) ⌝ }
     ensures answer { λ r. ⌜ r ≡ endAnswer (rows (now (px .entry)) (now (py .entry)) (now (xi .entry)) (now (eta .entry))) limit
         (poolEnd (rows (now (px .entry)) (now (py .entry)) (now (xi .entry)) (now (eta .entry))) limit (now (pool .entry)) trials) ⌝ }
@@ -86,7 +89,8 @@ fn run_pool(
         cd_mask::fill_ones(mask, n);
         return CdRun::Untested(n);
     }
-    let held = cd_trial::search(px, py, xi, eta, pool, limit, trials);
+    let reach = Reach::of(limit);
+    let held = cd_trial::search(px, py, xi, eta, pool, reach, trials);
     let on = held.on;
     let f = held.fit;
     match f {
@@ -95,7 +99,7 @@ fn run_pool(
             if on < LEAST_ROWS {
                 return CdRun::Refused(Refusal::Few);
             }
-            cd_near::mark_near(px, py, xi, eta, m, limit, mask);
+            cd_near::mark_near(px, py, xi, eta, m, reach, mask);
             CdRun::Fitted(on)
         }
     }

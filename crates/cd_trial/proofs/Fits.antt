@@ -45,7 +45,6 @@ three-fit r t s e u h p q w x y z sums b f d = rw e (ap modelOf (d ∙ fit-both 
 
 -- a mask that was written from the front begins with the near rows
 pub near-length : (r : Rows) (limit : Float) (m : Cd) → length (nearMarks r limit m) ≡ rows.count r
-unfolding nearMarks
 near-length r limit m = length-marks _ (rows.count r)
 
 pub near-front : (r : Rows) (limit : Float) (m : Cd) (old mask : List ℕ) → mask ≡ written (nearMarks r limit m) old → take (rows.count r) mask ≡ nearMarks r limit m

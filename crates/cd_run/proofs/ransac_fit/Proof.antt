@@ -40,7 +40,7 @@ run-pool-requires : tie.Need-run-pool-requires
 run-pool-requires c κs =
     let k = tests-passed _ _ _ _ _ (sym (c .before .before .before .before .before .before .before .before .check-run .ensures) ∙ c .before .before .before .before .before .before .enum-told .given .1) in
     let a = c .before .before .before .before .before .before .before .before .before .before .before .before .before .before .before .args in
-    (k .py-long, (k .xi-long, (k .eta-long, (k .few-rows, (k .room, rw (c .before .before .before .pool-of .ensures .1) (λ i h. pool-below (now (a .votes)) (length (now (a .px))) i h .0))))))
+    (k .py-long, (k .xi-long, (k .eta-long, (k .few-rows, (k .room, (k .limit-good, rw (c .before .before .before .pool-of .ensures .1) (λ i h. pool-below (now (a .votes)) (length (now (a .px))) i h .0)))))))
 
 returns : tie.Need-returns
 returns c =

@@ -1,14 +1,24 @@
 -- `cd_run::run_pool` meets its contract: each return has its end, and a refusal keeps the mask. Assumes nothing.
 use Rattle.cd_run.proofs.Ending.{ended, small-pool, none-held, few-held, three-held, held-on}
 use Rattle.cd_run.specs.declared.CdRun.the-variants.{Fitted}
-use Rattle.cd_trial.specs.Trial.{modelOf}
+use Rattle.cd_near.specs.Near.{nearMarks}
+use Rattle.cd_trial.specs.Held.{IsHeld}
+use Rattle.cd_trial.specs.Trial.{modelOf, bestOf}
+use Rattle.domain.specs.Answers.{written}
 use Rattle.rows.specs.Rows.{rows}
 use denote.Ref.{now}
 use native.Mathlib.Omega.{arith}
-use mathlib.Core.Path.{refl, ap}
+use mathlib.Core.Path.{refl, ap, _∙_, subst}
 use borrow.Author.Needs.{needs}
 use Rattle.cd_run.proofs.run_pool.Statement.{statement}
 use Rattle.cd_run.proofs.run_pool.Tie as tie
+
+-- what the search held, under the limit that its reach is of
+held : (c : tie.After-search) → let a = c .before .before .before .before .before .before .before .before .before .args in let r = rows (now (a .px)) (now (a .py)) (now (a .xi)) (now (a .eta)) in IsHeld r (a .limit) (now (a .pool)) (bestOf r (a .limit) (now (a .pool)) (a .trials)) (c .search .result)
+held c =
+    let a = c .before .before .before .before .before .before .before .before .before .args in
+    let r = rows (now (a .px)) (now (a .py)) (now (a .xi)) (now (a .eta)) in
+    subst (λ l. IsHeld r l (now (a .pool)) (bestOf r l (now (a .pool)) (a .trials)) (c .search .result)) (c .before .of .ensures .0) (c .search .ensures)
 
 fill-ones-requires : tie.Need-fill-ones-requires
 fill-ones-requires c κs = search needs
@@ -19,10 +29,13 @@ same-length c = search needs
 returns : tie.Need-returns
 returns c = ended _ _ _ _ _ _ _ (small-pool _ _ _ _ (c .before .before .before .before .if1 .taken)) refl (c .before .before .fill-ones .ensures)
 
+of-requires : tie.Need-of-requires
+of-requires c κs = c .before .before .before .before .before .before .before .pre .1 .1 .1 .1 .1 .0
+
 search-requires : tie.Need-search-requires
 search-requires c κs =
-    let h = c .before .before .before .before .before .before .before .pre in
-    (h .0, (h .1 .0, (h .1 .1 .0, (h .1 .1 .1 .0, record { some-place = omega (arith, c .if1 .left); has-row = h .1 .1 .1 .1 .1 }))))
+    let h = c .before .before .before .before .before .before .before .before .pre in
+    (h .0, (h .1 .0, (h .1 .1 .0, (h .1 .1 .1 .0, (record { some-place = omega (arith, c .before .if1 .left); has-row = h .1 .1 .1 .1 .1 .1 }, c .of .ensures .1)))))
 
 enum-told : tie.Need-enum-told
 enum-told c = search needs
@@ -31,26 +44,33 @@ enum-known-f : tie.Need-enum-known-f
 enum-known-f c = search needs
 
 returns-2 : tie.Need-returns-2
-returns-2 c = ended _ _ _ _ _ _ _ (few-held _ _ _ _ (c .before .before .before .before .search .result) (c .before .before .before .before .search .ensures) (c .before .before .before .before .before .if1 .left) _ (ap modelOf (c .before .before .f .given .1)) (c .if2 .taken)) refl refl
+returns-2 c =
+    let s = c .before .before .before .before in
+    ended _ _ _ _ _ _ _ (few-held _ _ _ _ (s .search .result) (held s) (s .before .before .if1 .left) _ (ap modelOf (c .before .before .f .given .1)) (c .if2 .taken)) refl refl
 
 mark-near-requires : tie.Need-mark-near-requires
-mark-near-requires c κs = search needs
+mark-near-requires c κs =
+    let h = c .before .before .before .before .before .before .before .before .before .before .before .before .before .before .pre in
+    (h .0, (h .1 .0, (h .1 .1 .0, (h .1 .1 .1 .1 .0, c .before .before .before .before .before .before .of .ensures .1))))
 
 returns-3 : tie.Need-returns-3
-returns-3 c = ended _ _ _ _ _ _ _ (none-held _ _ _ _ (c .before .before .search .result) (c .before .before .search .ensures) (c .before .before .before .if1 .left) (ap modelOf (c .enum-told .given .1))) refl refl
+returns-3 c =
+    let s = c .before .before in
+    ended _ _ _ _ _ _ _ (none-held _ _ _ _ (s .search .result) (held s) (s .before .before .if1 .left) (ap modelOf (c .enum-told .given .1))) refl refl
 
 same-length-2 : tie.Need-same-length-2
 same-length-2 c = search needs
 
 returns-4 : tie.Need-returns-4
 returns-4 c =
-    let a = c .before .before .before .before .before .before .before .before .before .before .before .before .before .before .before .before .args in
+    let s = c .before .before .before .before .before .before .before .before in
+    let a = s .before .before .before .before .before .before .before .before .before .args in
     let r = rows (now (a .px)) (now (a .py)) (now (a .xi)) (now (a .eta)) in
-    let s = c .before .before .before .before .before .before .before .before .search in
-    let p = c .before .before .before .before .before .before .before .before .before .if1 .left in
+    let p = s .before .before .if1 .left in
     let e = ap modelOf (c .before .before .before .before .before .before .f .given .1) in
-    let on = held-on r (a .limit) (now (a .pool)) (a .trials) (s .result) (s .ensures) p _ e in
-    ended _ _ _ _ _ _ _ (three-held r (a .limit) (now (a .pool)) (a .trials) (s .result) (s .ensures) p _ e (c .before .before .before .before .if2 .left)) (ap Fitted on) (c .before .before .mark-near .ensures)
+    let on = held-on r (a .limit) (now (a .pool)) (a .trials) (s .search .result) (held s) p _ e in
+    let marked = c .before .before .mark-near .ensures ∙ ap (λ l. written (nearMarks r l (c .before .before .before .before .before .before .f .given .0 .0)) (now (a .mask))) (s .before .of .ensures .0) in
+    ended _ _ _ _ _ _ _ (three-held r (a .limit) (now (a .pool)) (a .trials) (s .search .result) (held s) p _ e (c .before .before .before .before .if2 .left)) (ap Fitted on) marked
 
 pub run-pool-spec : {M : Type 1} → statement M
 run-pool-spec =
@@ -59,6 +79,7 @@ run-pool-spec =
     fill-ones-requires
     same-length
     returns
+    of-requires
     search-requires
     enum-told
     enum-known-f
