@@ -42,7 +42,8 @@ fn refit(px: &[f64], py: &[f64], xi: &[f64], eta: &[f64], mask: &[u8], weights: 
     cd_fit::solve_both(cd_sums::sum_weighted(px, py, xi, eta, mask, weights))
 }
 
-// The rounds, with the roots of the weights and a place for each error.
+// The rounds, with the roots of the weights and a place for each error. They are left where fewer than
+// three rows are on, where none is rejected, and where fewer than three are left.
 fn clip_rounds(
     px: &[f64],
     py: &[f64],
