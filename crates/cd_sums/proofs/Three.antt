@@ -1,6 +1,6 @@
 -- The sums over a mask that is on at three places are those of the three rows: rows that are off add nothing. Assumes nothing.
-use mathlib.Core.Path.{_≡_, refl, sym, ap, _∙_}
-use mathlib.Core.Bool.{Bool, true, false}
+use mathlib.Core.Path.{_≡_, sym, ap, _∙_}
+use mathlib.Core.Bool.{true, false}
 use mathlib.Core.List.{List}
 use Prim.Native.Nat.{ℕ, zero, suc, _+_, _-_, _≤_, _<_}
 use native.Mathlib.Nat.{add-zero}
@@ -9,7 +9,7 @@ use lib.Ieee.{Float}
 use Rattle.rows.specs.Rows.{Rows, rowAt}
 use Rattle.rows.specs.declared.Row.{Row}
 use Rattle.cd_plate.specs.Masked.{isOn}
-use Rattle.cd_sums.specs.Sums.{Nine, noRows, withRow, stepIf, sumsTo, plainStep, plainSums, threeSums}
+use Rattle.cd_sums.specs.Sums.{Nine, sumsTo, plainStep, plainSums, threeSums}
 
 module _ (step : ℕ → Nine → Nine) (mask : List ℕ) where
   -- one row that is on

@@ -3,10 +3,10 @@ use mathlib.Core.Path.{_≡_, refl}
 use mathlib.Core.List.{List, [], _∷_}
 use mathlib.Core.Option.{some, none}
 use Prim.Native.Nat.{ℕ}
-use lib.Ieee.{binary64, ofBits, add, sub, mul, div, neg, lt, le, eq}
+use lib.Ieee.{ofBits, add, sub, mul, div, neg, lt, le, eq}
 use Rattle.floats.specs.Magnitude.{magnitudeOf}
 use Rattle.rows.specs.Rows.{Rows, rows}
-use Rattle.draw.specs.Draw.{Triple, nextWord, tripleAfter, triples}
+use Rattle.draw.specs.Draw.{nextWord, tripleAfter, triples}
 use Rattle.elimination.specs.Elimination.{pivotRow, eliminateFrom, rowLess, unknownsTo}
 use Rattle.cd_plate.specs.declared.Cd.{Cd}
 use Rattle.cd_plate.specs.Plate.{nothing, determinantOf}
