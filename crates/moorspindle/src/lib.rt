@@ -16,6 +16,8 @@ ghost use Rattle.hash_index.specs.Matches.{matchesOf};
 ghost use Rattle.aggregate.specs.Extract.{given, room, pairXs, pairYs, pairRas, pairDecs, pairVotes, pairSnrs};
 ghost use Rattle.matching_face.specs.Face.{matchesFace, matchesCount, pairsFace, pairsCount};
 ghost use Rattle.verify_face.specs.Face.{affineFace, affineWritten, inliersFace, inliersCount, scoreFace, scoreCount};
+ghost use Rattle.cd_run.specs.Run.{runAnswer, runNumber, maskAfter};
+ghost use Rattle.run_face.specs.Face.{testedAfter, onAfter};
 ghost use Rattle.cd_fit.specs.Fit.{fitAnswer};
 ghost use Rattle.cd_normal.specs.Normal.{normalSolved, unknownsOf, normalAnswer};
 ghost use Rattle.cd_residuals.specs.Residuals.{residualsX, residualsY, residualsPx, foundOf};
@@ -435,6 +437,33 @@ pub extern "C" fn moorspindle_compute_pixel_errors(
         (now (errors .entry)) ⌝ }
 {
     cd_face::compute_pixel_errors(px, py, xi, eta, mask, cd, errors)
+}
+
+// The CD run over a mask, with whether it was tested and how many rows are on.
+pub extern "C" fn moorspindle_ransac_fit(
+    px: &[f64],
+    py: &[f64],
+    xi: &[f64],
+    eta: &[f64],
+    votes: &[u32],
+    limit: f64,
+    trials: u32,
+    mask: &mut [u8],
+    tested: &mut u8,
+    on: &mut u64,
+) -> u32
+    ensures number { λ r. ⌜ r ≡ runNumber
+        (runAnswer (rows (now (px .entry)) (now (py .entry)) (now (xi .entry)) (now (eta .entry))) (now (votes .entry)) limit trials (length (now (mask .entry)))) ⌝ }
+    ensures mask { λ r. ⌜ now (mask .exit)
+        ≡ maskAfter (rows (now (px .entry)) (now (py .entry)) (now (xi .entry)) (now (eta .entry))) (now (votes .entry)) limit trials (now (mask .entry)) ⌝ }
+    ensures tested { λ r. ⌜ now (tested .exit) ≡ testedAfter
+        (runAnswer (rows (now (px .entry)) (now (py .entry)) (now (xi .entry)) (now (eta .entry))) (now (votes .entry)) limit trials (length (now (mask .entry))))
+        (now (tested .entry)) ⌝ }
+    ensures on { λ r. ⌜ now (on .exit) ≡ onAfter
+        (runAnswer (rows (now (px .entry)) (now (py .entry)) (now (xi .entry)) (now (eta .entry))) (now (votes .entry)) limit trials (length (now (mask .entry))))
+        (now (on .entry)) ⌝ }
+{
+    run_face::ransac_fit(px, py, xi, eta, votes, limit, trials, mask, tested, on)
 }
 
 #[no_mangle]
