@@ -440,6 +440,7 @@ pub extern "C" fn moorspindle_compute_pixel_errors(
 }
 
 // The CD run over a mask, with whether it was tested and how many rows are on.
+#[no_mangle]
 pub extern "C" fn moorspindle_ransac_fit(
     px: &[f64],
     py: &[f64],
