@@ -17,7 +17,7 @@ ghost use Rattle.cd_residuals.specs.Residuals.{residualsX, residualsY, residual
 ghost use Rattle.cd_face.specs.Face.{cdNumbers, fitFace, fitWritten, weightedFit, cdIn, wcsIn, errorsFace, errorsWritten, residualsFace, valueAfter, rmsDone, rmsIn, rmsFace, rmsValue, weightedFace, weightedValue};
 
 // The CD that six numbers make.
-fn cd_in(m: &[f64]) -> Cd
+pub fn cd_in(m: &[f64]) -> Cd
     requires { ⌜ 6 ≤ length (now m) ⌝ }
     ensures { λ r. ⌜ r ≡ cdIn (now (m .entry)) ⌝ }
 {
@@ -47,7 +47,7 @@ fn wcs_in(m: &[f64]) -> Wcs
 }
 
 // Writes the six numbers of a CD into the front of a list that has the room.
-fn put_cd(out: &mut [f64], m: Cd) -> Answer
+pub fn put_cd(out: &mut [f64], m: Cd) -> Answer
     ensures answer { λ r. ⌜ r ≡ roomFor 6 (length (now (out .entry))) ⌝ }
     ensures after { λ r. ⌜ now (out .exit) ≡ lentAfter (roomFor 6 (length (now (out .entry)))) (cdNumbers m) (now (out .entry)) ⌝ }
 {
