@@ -1,3 +1,5 @@
+use lib.ListN.{length}
+use Prim.Native.Nat.{_≤_, _<_}
 -- `cd_run::run_pool` meets its contract: each return has its end, and a refusal keeps the mask. Assumes nothing.
 use Rattle.cd_run.proofs.Ending.{ended, small-pool, none-held, few-held, three-held, held-on}
 use Rattle.cd_run.specs.declared.CdRun.the-variants.{Fitted}
@@ -17,7 +19,9 @@ same-length : tie.Need-same-length
 same-length c = search needs
 
 returns : tie.Need-returns
-returns c = ended _ _ _ _ _ _ _ (small-pool _ _ _ _ (c .before .before .before .before .if1 .taken)) refl (c .before .before .fill-ones .ensures)
+returns c =
+    let few : length (now (c .before .before .before .before .before .before .before .before .before .before .before .args .pool)) < 3 = omega (arith, c .before .before .before .before .if1 .taken) in
+    ended _ _ _ _ _ _ _ (small-pool _ _ _ _ few) refl (c .before .before .fill-ones .ensures)
 
 search-requires : tie.Need-search-requires
 search-requires c κs =
@@ -31,13 +35,18 @@ enum-known-f : tie.Need-enum-known-f
 enum-known-f c = search needs
 
 returns-2 : tie.Need-returns-2
-returns-2 c = ended _ _ _ _ _ _ _ (few-held _ _ _ _ (c .before .before .before .before .search .result) (c .before .before .before .before .search .ensures) (c .before .before .before .before .before .if1 .left) _ (ap modelOf (c .before .before .f .given .1)) (c .if2 .taken)) refl refl
+returns-2 c =
+    let p : 3 ≤ length (now (c .before .before .before .before .before .before .before .before .before .before .before .before .args .pool)) = omega (arith, c .before .before .before .before .before .if1 .left) in
+    let few : c .before .before .before .before .search .result .on < 3 = omega (arith, c .if2 .taken) in
+    ended _ _ _ _ _ _ _ (few-held _ _ _ _ (c .before .before .before .before .search .result) (c .before .before .before .before .search .ensures) p _ (ap modelOf (c .before .before .f .given .1)) few) refl refl
 
 mark-near-requires : tie.Need-mark-near-requires
 mark-near-requires c κs = search needs
 
 returns-3 : tie.Need-returns-3
-returns-3 c = ended _ _ _ _ _ _ _ (none-held _ _ _ _ (c .before .before .search .result) (c .before .before .search .ensures) (c .before .before .before .if1 .left) (ap modelOf (c .enum-told .given .1))) refl refl
+returns-3 c =
+    let p : 3 ≤ length (now (c .before .before .before .before .before .before .before .before .before .before .args .pool)) = omega (arith, c .before .before .before .if1 .left) in
+    ended _ _ _ _ _ _ _ (none-held _ _ _ _ (c .before .before .search .result) (c .before .before .search .ensures) p (ap modelOf (c .enum-told .given .1))) refl refl
 
 same-length-2 : tie.Need-same-length-2
 same-length-2 c = search needs
@@ -47,10 +56,11 @@ returns-4 c =
     let a = c .before .before .before .before .before .before .before .before .before .before .before .before .before .before .before .before .args in
     let r = rows (now (a .px)) (now (a .py)) (now (a .xi)) (now (a .eta)) in
     let s = c .before .before .before .before .before .before .before .before .search in
-    let p = c .before .before .before .before .before .before .before .before .before .if1 .left in
+    let p : 3 ≤ length (now (a .pool)) = omega (arith, c .before .before .before .before .before .before .before .before .before .if1 .left) in
+    let three : 3 ≤ s .result .on = omega (arith, c .before .before .before .before .if2 .left) in
     let e = ap modelOf (c .before .before .before .before .before .before .f .given .1) in
     let on = held-on r (a .limit) (now (a .pool)) (a .trials) (s .result) (s .ensures) p _ e in
-    ended _ _ _ _ _ _ _ (three-held r (a .limit) (now (a .pool)) (a .trials) (s .result) (s .ensures) p _ e (c .before .before .before .before .if2 .left)) (ap Fitted on) (c .before .before .mark-near .ensures)
+    ended _ _ _ _ _ _ _ (three-held r (a .limit) (now (a .pool)) (a .trials) (s .result) (s .ensures) p _ e three) (ap Fitted on) (c .before .before .mark-near .ensures)
 
 pub run-pool-spec : {M : Type 1} → statement M
 run-pool-spec =
