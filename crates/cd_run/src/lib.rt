@@ -112,11 +112,12 @@ fn no_places() -> [usize; 100]
     [0usize; 100]
 }
 
-// The CD run. `answer` and `mask` tell the answer and every byte, on every input: by them a run that refuses all,
-// a count that is made up, one mask for all inputs and a mask that is not written are shut out.
-// `fitted`: no trial had a better plate; a run that fits only its first trial is shut out, and so are rows that are on
-// under no plate of the run. `untested` is never read as tested: it has a pool under three, and all rows are on.
-// `nine` shuts out a run that answers number 9 where a drawn triple has three rows.
+// The CD run: of the plates that a fixed draw gives, the one that the most rows are near to.
+// `answer` shuts out a run that refuses all, and a row count that is made up: both are told on every input.
+// `mask` shuts out one mask for all inputs, a mask that is not written, and one that is written before a refusal.
+// `fitted` shuts out a run that fits only its first trial: no drawn triple that can be fitted has more rows.
+// `untested` shuts out a tested pool that is read as untested, and a row that is then left off.
+// `nine` shuts out number 9 where a drawn triple that can be fitted has three rows.
 pub fn ransac_fit(
     px: &[f64],
     py: &[f64],
