@@ -79,8 +79,8 @@ uint32_t moorspindle_verify_pairs(const double *px, size_t, const double *py, si
         const double *xi, size_t, const double *eta, size_t, uint64_t *score);
 
 /* ---- cd_matrix.rs. What each can answer beside 0: both fits 1 2 3 7 8, compute_pixel_errors
-   1 2 3 7, compute_residuals 1 2 3 7, rms_error 1, weighted_rms_error 1 2,
-   solve_normal_equations 1 2 7 8 */
+   1 2 3 7, ransac_fit 1 2 3 7 9, sigma_clip_loop_weighted 1 2 3 8, compute_residuals 1 2 3 7,
+   rms_error 1, weighted_rms_error 1 2, solve_normal_equations 1 2 7 8 */
 uint32_t moorspindle_fit_cd_matrix_6(const double *px, size_t, const double *py, size_t,
         const double *xi, size_t, const double *eta, size_t,
         const uint8_t *mask, size_t, double *cd, size_t);            /* 6 */
@@ -90,6 +90,17 @@ uint32_t moorspindle_fit_cd_weighted(const double *px, size_t, const double *py,
 uint32_t moorspindle_compute_pixel_errors(const double *px, size_t, const double *py, size_t,
         const double *xi, size_t, const double *eta, size_t,
         const uint8_t *mask, size_t, const double *cd, size_t, double *errors, size_t);
+/* *tested 1: fitted; 0: untested (pool under 3). *on: the rows that are on. Of at most 1,000
+   trials, each of which fits three rows, the plate with the most rows within the limit. */
+uint32_t moorspindle_ransac_fit(const double *px, size_t, const double *py, size_t,
+        const double *xi, size_t, const double *eta, size_t,
+        const uint32_t *votes, size_t, double limit, uint32_t trials,
+        uint8_t *mask, size_t, uint8_t *tested, uint64_t *on);
+/* Turns rows off that are far from the plate, and fits it again: up to ten rounds. The mask and
+   the CD numbers are read and written. */
+uint32_t moorspindle_sigma_clip_loop_weighted(const double *px, size_t, const double *py, size_t,
+        const double *xi, size_t, const double *eta, size_t,
+        uint8_t *mask, size_t, double *cd, size_t, const double *weights, size_t);
 /* wcs: crpix1, crpix2, cd1_1, cd1_2, cd2_1, cd2_2; rows in degrees */
 uint32_t moorspindle_compute_residuals(const double *px, size_t, const double *py, size_t,
         const double *xi, size_t, const double *eta, size_t, const double *wcs, size_t,

@@ -18,6 +18,8 @@ ghost use Rattle.matching_face.specs.Face.{matchesFace, matchesCount, pairsFace
 ghost use Rattle.verify_face.specs.Face.{affineFace, affineWritten, inliersFace, inliersCount, scoreFace, scoreCount};
 ghost use Rattle.cd_run.specs.Run.{runAnswer, runNumber, maskAfter};
 ghost use Rattle.run_face.specs.Face.{testedAfter, onAfter};
+ghost use Rattle.cd_clip.specs.Clip.{clipNumber};
+ghost use Rattle.clip_face.specs.Face.{plateAfter, clipFace};
 ghost use Rattle.cd_fit.specs.Fit.{fitAnswer};
 ghost use Rattle.cd_normal.specs.Normal.{normalSolved, unknownsOf, normalAnswer};
 ghost use Rattle.cd_residuals.specs.Residuals.{residualsX, residualsY, residualsPx, foundOf};
@@ -465,6 +467,27 @@ pub extern "C" fn moorspindle_ransac_fit(
         (now (on .entry)) ⌝ }
 {
     run_face::ransac_fit(px, py, xi, eta, votes, limit, trials, mask, tested, on)
+}
+
+// The weighted clip of rows under a CD of six numbers.
+#[no_mangle]
+pub extern "C" fn moorspindle_sigma_clip_loop_weighted(
+    px: &[f64],
+    py: &[f64],
+    xi: &[f64],
+    eta: &[f64],
+    mask: &mut [u8],
+    cd: &mut [f64],
+    weights: &[f64],
+) -> u32
+    ensures number { λ r. ⌜ r ≡ clipNumber (clipFace
+        (rows (now (px .entry)) (now (py .entry)) (now (xi .entry)) (now (eta .entry))) (now (mask .entry)) (now (cd .entry)) (now (weights .entry)) .answer) ⌝ }
+    ensures mask { λ r. ⌜ now (mask .exit) ≡ clipFace
+        (rows (now (px .entry)) (now (py .entry)) (now (xi .entry)) (now (eta .entry))) (now (mask .entry)) (now (cd .entry)) (now (weights .entry)) .mask ⌝ }
+    ensures cd { λ r. ⌜ now (cd .exit) ≡ plateAfter (clipFace
+        (rows (now (px .entry)) (now (py .entry)) (now (xi .entry)) (now (eta .entry))) (now (mask .entry)) (now (cd .entry)) (now (weights .entry)) .answer) (now (cd .entry)) ⌝ }
+{
+    clip_face::sigma_clip_loop_weighted(px, py, xi, eta, mask, cd, weights)
 }
 
 #[no_mangle]

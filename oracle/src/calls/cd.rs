@@ -31,7 +31,7 @@ pub const GROUP: Group = Group {
 const WORD: u64 = 0xa5a5_a5a5_a5a5_a5a5;
 const FLOAT: f64 = f64::from_bits(WORD);
 
-fn rows_at(case: &Case) -> Rows<'_> {
+pub fn rows_at(case: &Case) -> Rows<'_> {
     [0, 1, 2, 3].map(|place| case.floats_at(place))
 }
 
@@ -48,7 +48,7 @@ fn masks(n: usize) -> Vec<Vec<u8>> {
     masks
 }
 
-fn random_mask(random: &mut Random, n: usize) -> Vec<u8> {
+pub fn random_mask(random: &mut Random, n: usize) -> Vec<u8> {
     let off = random.one_of(&[0, 0, 1, 2, 5]);
     let mut mask: Vec<u8> = (0..n).map(|_| u8::from(random.below(5) >= off)).collect();
     match random.below(150) {
@@ -60,9 +60,9 @@ fn random_mask(random: &mut Random, n: usize) -> Vec<u8> {
 }
 
 /// What is no weight.
-const BAD_WEIGHTS: [f64; 5] = [f64::NAN, -5e-324, f64::INFINITY, 1_099_511_627_776.5, -1.0];
+pub const BAD_WEIGHTS: [f64; 5] = [f64::NAN, -5e-324, f64::INFINITY, 1_099_511_627_776.5, -1.0];
 
-fn random_weights(random: &mut Random, n: usize) -> Vec<f64> {
+pub fn random_weights(random: &mut Random, n: usize) -> Vec<f64> {
     let style = random.below(6);
     let weight = |random: &mut Random| match style {
         0 => 1.0,
@@ -256,7 +256,7 @@ const COMPUTE_PIXEL_ERRORS: Call = Call {
 
 /// CDs: the unit one, a turned one, and such as have a determinant of 0, around 1e-30, infinite and
 /// NaN.
-fn plates() -> [[f64; 6]; 11] {
+pub fn plates() -> [[f64; 6]; 11] {
     let least = 1e-30f64;
     [
         [1.0, 0.0, 0.0, 0.0, 1.0, 0.0],
@@ -273,7 +273,7 @@ fn plates() -> [[f64; 6]; 11] {
     ]
 }
 
-fn random_plate(random: &mut Random) -> [f64; 6] {
+pub fn random_plate(random: &mut Random) -> [f64; 6] {
     match random.below(6) {
         0 => [(); 6].map(|()| random.pattern()),
         1 => random.one_of(&plates()),

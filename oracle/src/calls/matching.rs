@@ -689,7 +689,9 @@ const VERIFY_PAIRS: Call = Call {
     takes: &[Kind::Floats; 4], // px, py, xi, eta
     edges: |_| {
         let lists = rows::figures().into_iter().chain(rows::refused());
-        lists.map(|rows| rows.fields()).collect()
+        let mut random = Random::new(1, "a hundred rows");
+        let whole = rows::random(&mut random, 100); // as many as there may be
+        lists.chain([whole]).map(|rows| rows.fields()).collect()
     },
     random: |random| {
         let n = random.one_of(&[0, 1, 2, 3, 4, 5, 7, 12]);

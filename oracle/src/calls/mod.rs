@@ -8,8 +8,9 @@ mod cd;
 mod floats;
 mod matching;
 mod quad;
+mod run;
 
-pub const GROUPS: &[Group] = &[floats::GROUP, quad::GROUP, matching::GROUP, cd::GROUP];
+pub const GROUPS: &[Group] = &[floats::GROUP, quad::GROUP, matching::GROUP, cd::GROUP, run::GROUP];
 
 /// A call of Moorspindle's, its cases, and the two sources of its answers.
 pub struct Call {

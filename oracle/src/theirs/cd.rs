@@ -92,7 +92,7 @@ pub fn solve_normal_equations(a: &[f64], b: &[f64], n: u32, x: &mut [f64]) -> u3
 }
 
 /// The mask as the Rust has it, once the numbers 1, 2 and 3 of all lists are not due.
-fn test_mask(rows: Rows, mask: &[u8], weights: Option<&[f64]>) -> Tested<Vec<bool>> {
+pub fn test_mask(rows: Rows, mask: &[u8], weights: Option<&[f64]>) -> Tested<Vec<bool>> {
     let n = rows[0].len();
     let lists = weights.map_or(0, <[f64]>::len).max(mask.len());
     refuse(COUNT, lists > MOST || rows.iter().any(|list| list.len() > MOST))?;
@@ -103,6 +103,6 @@ fn test_mask(rows: Rows, mask: &[u8], weights: Option<&[f64]>) -> Tested<Vec<boo
     Ok(mask.iter().map(|&byte| byte == 1).collect())
 }
 
-fn six(numbers: &[f64]) -> Cd {
+pub fn six(numbers: &[f64]) -> Cd {
     numbers.try_into().expect("six numbers")
 }

@@ -6,6 +6,7 @@ pub mod cd;
 pub mod matching;
 pub mod quad;
 mod rows;
+pub mod run;
 
 /// The number of the first refusal, or what was asked for.
 type Tested<T> = Result<T, u32>;
@@ -16,6 +17,7 @@ const VALUE: u32 = 3;
 const PLACE: u32 = 4;
 const ROOM: u32 = 7;
 const DEGENERATE: u32 = 8;
+const FEW: u32 = 9;
 
 fn refuse(number: u32, when: bool) -> Tested<()> {
     if when { Err(number) } else { Ok(()) }

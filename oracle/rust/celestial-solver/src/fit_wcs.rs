@@ -94,6 +94,64 @@ pub fn sigma_clip_loop_weighted(
     plain(done)
 }
 
+/// Wrong ports: each a text of cd_matrix.rs with one line changed. What they answer is of no worth
+/// but to find a case that tells them from the right one.
+pub mod wrong {
+    use super::{plain, solution, voted, Cd};
+    use crate::{Fit, Row};
+
+    /// The mask of a run, by a number of trials.
+    pub type Run = fn(&[Row], &[usize], f64, usize) -> Fit<Vec<bool>>;
+    /// What a clip leaves of the mask and the CD.
+    pub type Clip = fn(&[Row], &[bool], Cd, &[f64]) -> (bool, Vec<bool>, Cd);
+
+    macro_rules! wrong {
+        ($name:ident, $file:literal) => {
+            pub mod $name {
+                use super::{plain, solution, voted, Cd, Fit, Row};
+
+                mod text {
+                    include!(concat!(env!("OUT_DIR"), $file));
+                }
+
+                pub fn run(rows: &[Row], votes: &[usize], limit: f64, n: usize) -> Fit<Vec<bool>> {
+                    super::super::trials::set(n);
+                    plain(text::ransac_fit(rows, &voted(votes), limit))
+                }
+
+                pub fn clip(
+                    rows: &[Row],
+                    mask: &[bool],
+                    [cd1_1, cd1_2, xi0, cd2_1, cd2_2, eta0]: Cd,
+                    weights: &[f64],
+                ) -> (bool, Vec<bool>, Cd) {
+                    let mut mask = mask.to_vec();
+                    let mut p = text::CdParams { cd1_1, cd1_2, xi0, cd2_1, cd2_2, eta0 };
+                    let done = text::sigma_clip_loop_weighted(rows, &mut mask, &mut p, weights);
+                    let cd = [p.cd1_1, p.cd1_2, p.xi0, p.cd2_1, p.cd2_2, p.eta0];
+                    (done.is_ok(), mask, cd)
+                }
+            }
+        };
+    }
+
+    wrong!(below, "/wrong_below.rs");
+    wrong!(as_many, "/wrong_as_many.rs");
+    wrong!(refit_more, "/wrong_refit_more.rs");
+    wrong!(refit_none, "/wrong_refit_none.rs");
+    wrong!(redraw, "/wrong_redraw.rs");
+    wrong!(above_third, "/wrong_above_third.rs");
+    wrong!(rounds_9, "/wrong_rounds_9.rs");
+    wrong!(rounds_11, "/wrong_rounds_11.rs");
+    wrong!(square_first, "/wrong_square_first.rs");
+    wrong!(at_threshold, "/wrong_at_threshold.rs");
+
+    pub const RUNS: [Run; 6] =
+        [below::run, as_many::run, refit_more::run, refit_none::run, redraw::run, above_third::run];
+    pub const CLIPS: [Clip; 4] =
+        [rounds_9::clip, rounds_11::clip, square_first::clip, at_threshold::clip];
+}
+
 /// One text of cd_matrix.rs with a root of its own, and what takes roots in it, to be timed.
 macro_rules! with_root {
     ($module:ident, $file:literal) => {
