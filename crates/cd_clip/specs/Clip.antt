@@ -57,6 +57,7 @@ pub record Ended : Type 0 where
   pub answer : Clipped
   pub mask : List ℕ
 
+-- an answer with a mask
 abbrev pub ended : Clipped → List ℕ → Ended
 ended a m = record { answer = a; mask = m }
 
