@@ -1,6 +1,6 @@
 -- What the solvers answer and write when the result goes into what is lent. Definitions only.
 use mathlib.Core.Bool.{Bool, cond}
-use mathlib.Core.List.{List, [], _∷_}
+use mathlib.Core.List.{List, []}
 use Prim.Native.Nat.{ℕ}
 use lib.Dec.{eqb}
 use lib.ListN.{length, getD}
@@ -10,8 +10,8 @@ use Rattle.domain.specs.declared.Refusal.the-variants as refusal
 use Rattle.domain.specs.declared.Answer.{Answer}
 use Rattle.domain.specs.declared.Answer.the-variants as answer
 use Rattle.rows.specs.Rows.{Rows, fewRows}
-use Rattle.cd_plate.specs.declared.Cd.{Cd}
 use Rattle.cd_plate.specs.Masked.{fewMasked}
+use Rattle.cd_plate.specs.Six.{cdIn, cdNumbers}
 use Rattle.cd_fit.specs.declared.CdFit.{CdFit}
 use Rattle.cd_fit.specs.declared.CdFit.the-variants as fit
 use Rattle.cd_fit.specs.Fit as weights
@@ -21,21 +21,6 @@ use Rattle.cd_residuals.specs.Residuals.{residualsDone}
 use Rattle.cd_rms.specs.declared.Rms.{Rms}
 use Rattle.cd_rms.specs.declared.Rms.the-variants as rms
 use Rattle.cd_rms.specs.Rms.{rmsAnswer, weightedAnswer}
-
--- the CD that six numbers make
-abbrev pub cdIn : List Float → Cd
-cdIn l = record {
-  cd1_1 = getD l 0 nan;
-  cd1_2 = getD l 1 nan;
-  xi0 = getD l 2 nan;
-  cd2_1 = getD l 3 nan;
-  cd2_2 = getD l 4 nan;
-  eta0 = getD l 5 nan;
-}
-
--- the six numbers of a CD
-abbrev pub cdNumbers : Cd → List Float
-cdNumbers m = m .cd1_1 ∷ m .cd1_2 ∷ m .xi0 ∷ m .cd2_1 ∷ m .cd2_2 ∷ m .eta0 ∷ []
 
 -- what a fit comes to in a list of so many places: numbers 1, 2 and 3, then 7 below 6 places, then 8
 abbrev pub fitFace : CdFit → ℕ → Answer

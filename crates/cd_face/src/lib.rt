@@ -14,22 +14,7 @@ ghost use Rattle.rows.specs.Rows.{rows};
 ghost use Rattle.cd_fit.specs.Fit.{fitAnswer};
 ghost use Rattle.cd_normal.specs.Normal.{normalSolved, unknownsOf, normalAnswer};
 ghost use Rattle.cd_residuals.specs.Residuals.{residualsX, residualsY, residualsPx, foundOf};
-ghost use Rattle.cd_face.specs.Face.{cdNumbers, fitFace, fitWritten, weightedFit, cdIn, wcsIn, errorsFace, errorsWritten, residualsFace, valueAfter, rmsDone, rmsIn, rmsFace, rmsValue, weightedFace, weightedValue};
-
-// The CD that six numbers make.
-pub fn cd_in(m: &[f64]) -> Cd
-    requires { ⌜ 6 ≤ length (now m) ⌝ }
-    ensures { λ r. ⌜ r ≡ cdIn (now (m .entry)) ⌝ }
-{
-    Cd {
-        cd1_1: m[0],
-        cd1_2: m[1],
-        xi0: m[2],
-        cd2_1: m[3],
-        cd2_2: m[4],
-        eta0: m[5],
-    }
-}
+ghost use Rattle.cd_face.specs.Face.{fitFace, fitWritten, weightedFit, wcsIn, errorsFace, errorsWritten, residualsFace, valueAfter, rmsDone, rmsIn, rmsFace, rmsValue, weightedFace, weightedValue};
 
 // The WCS that six numbers make.
 fn wcs_in(m: &[f64]) -> Wcs
@@ -46,23 +31,6 @@ fn wcs_in(m: &[f64]) -> Wcs
     }
 }
 
-// Writes the six numbers of a CD into the front of a list that has the room.
-pub fn put_cd(out: &mut [f64], m: Cd) -> Answer
-    ensures answer { λ r. ⌜ r ≡ roomFor 6 (length (now (out .entry))) ⌝ }
-    ensures after { λ r. ⌜ now (out .exit) ≡ lentAfter (roomFor 6 (length (now (out .entry)))) (cdNumbers m) (now (out .entry)) ⌝ }
-{
-    if out.len() < 6 {
-        return Answer::Refused(Refusal::Room);
-    }
-    out[0] = m.cd1_1;
-    out[1] = m.cd1_2;
-    out[2] = m.xi0;
-    out[3] = m.cd2_1;
-    out[4] = m.cd2_2;
-    out[5] = m.eta0;
-    Answer::Done
-}
-
 // What a fit comes to in a list that may lack room.
 fn put_fit(fit: CdFit, cd: &mut [f64]) -> u32
     ensures number { λ r. ⌜ r ≡ answerNumber (fitFace fit (length (now (cd .entry)))) ⌝ }
@@ -73,7 +41,7 @@ fn put_fit(fit: CdFit, cd: &mut [f64]) -> u32
             let room = domain::room_for(6, cd.len());
             domain::in_turn(why, room).number()
         }
-        CdFit::Plate(m) => put_cd(cd, m).number(),
+        CdFit::Plate(m) => cd_plate::put_cd(cd, m).number(),
     }
 }
 
@@ -137,7 +105,7 @@ pub fn compute_pixel_errors(
         }
         return Refusal::Count.number();
     }
-    cd_errors::compute_pixel_errors(px, py, xi, eta, mask, cd_in(cd), errors).number()
+    cd_errors::compute_pixel_errors(px, py, xi, eta, mask, cd_plate::cd_in(cd), errors).number()
 }
 
 // The residuals of rows in degrees under a WCS of six numbers, and how many they are.

@@ -1,14 +1,17 @@
 // A CD plate: six numbers, their inverse, and the error of a row; and what the calls ask of rows with a mask.
+use domain::Answer;
+use domain::Refusal;
 use rows::Row;
 ghost use mathlib.Core.Path.{_≡_};
 ghost use mathlib.Core.Bool.{cond};
 ghost use Prim.Native.Nat.{_≤_};
 ghost use lib.ListN.{length};
-ghost use Rattle.domain.specs.Answers.{written};
+ghost use Rattle.domain.specs.Answers.{roomFor, written, lentAfter};
 ghost use Rattle.rows.specs.Rows.{rows};
 ghost use Rattle.cd_plate.specs.Plate.{determinantOf, isCd, inverseOf, squareOf, errorOf, nothing};
 ghost use Rattle.cd_plate.specs.Masked.{fewMasked, evenMasked, goodMasked};
 ghost use Rattle.cd_plate.specs.Errors.{errorsOf};
+ghost use Rattle.cd_plate.specs.Six.{cdIn, cdNumbers};
 
 // The longest mask.
 const MOST_ROWS: usize = 100;
@@ -93,6 +96,38 @@ impl Inverse {
     {
         floats::root(self.square(row))
     }
+}
+
+// The CD that six numbers make.
+pub fn cd_in(m: &[f64]) -> Cd
+    requires { ⌜ 6 ≤ length (now m) ⌝ }
+    ensures { λ r. ⌜ r ≡ cdIn (now (m .entry)) ⌝ }
+{
+    Cd {
+        cd1_1: m[0],
+        cd1_2: m[1],
+        xi0: m[2],
+        cd2_1: m[3],
+        cd2_2: m[4],
+        eta0: m[5],
+    }
+}
+
+// Writes the six numbers of a CD into the front of a list that has the room.
+pub fn put_cd(out: &mut [f64], m: Cd) -> Answer
+    ensures answer { λ r. ⌜ r ≡ roomFor 6 (length (now (out .entry))) ⌝ }
+    ensures after { λ r. ⌜ now (out .exit) ≡ lentAfter (roomFor 6 (length (now (out .entry)))) (cdNumbers m) (now (out .entry)) ⌝ }
+{
+    if out.len() < 6 {
+        return Answer::Refused(Refusal::Room);
+    }
+    out[0] = m.cd1_1;
+    out[1] = m.cd1_2;
+    out[2] = m.xi0;
+    out[3] = m.cd2_1;
+    out[4] = m.cd2_2;
+    out[5] = m.eta0;
+    Answer::Done
 }
 
 // Whether no list has more than 100 places.

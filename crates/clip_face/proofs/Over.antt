@@ -6,7 +6,7 @@ use lib.ListN.{length, drop-of-length-le}
 use lib.Ieee.{Float}
 use Rattle.domain.specs.Answers.{roomFor, lentAfter}
 use Rattle.cd_plate.specs.declared.Cd.{Cd}
-use Rattle.cd_face.specs.Face.{cdNumbers}
+use Rattle.cd_plate.specs.Six.{cdNumbers}
 
 pub over-six : (m : Cd) (old new : List Float) → length old ≡ 6 → new ≡ lentAfter (roomFor 6 (length old)) (cdNumbers m) old → new ≡ cdNumbers m
 over-six m old new l e = e ∙ rw (l, drop-of-length-le old {i = 6} (le-of-eq l))

@@ -11,7 +11,7 @@ use Rattle.cd_plate.specs.Masked.{fewMasked}
 use Rattle.cd_clip.specs.declared.Clipped.{Clipped}
 use Rattle.cd_clip.specs.declared.Clipped.the-variants as clipped
 use Rattle.cd_clip.specs.Clip.{Ended, ended, sigmaClip}
-use Rattle.cd_face.specs.Face.{cdIn, cdNumbers}
+use Rattle.cd_plate.specs.Six.{cdIn, cdNumbers}
 
 -- the six numbers after a clip: those of its plate, done or stopped by number 8; a refusal keeps the old ones
 abbrev pub plateAfter : Clipped → List Float → List Float

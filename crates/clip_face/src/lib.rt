@@ -6,7 +6,7 @@ ghost use mathlib.Core.Path.{_≡_};
 ghost use lib.ListN.{length};
 ghost use Rattle.rows.specs.Rows.{rows};
 ghost use Rattle.cd_clip.specs.Clip.{clipNumber};
-ghost use Rattle.cd_face.specs.Face.{cdNumbers};
+ghost use Rattle.cd_plate.specs.Six.{cdNumbers};
 ghost use Rattle.clip_face.specs.Face.{plateAfter, clipFace};
 
 // The longest list of weights.
@@ -17,7 +17,7 @@ fn put_plate(cd: &mut [f64], m: Cd)
     requires { ⌜ length (now cd) ≡ 6 ⌝ }
     ensures { λ _. ⌜ now (cd .exit) ≡ cdNumbers m ⌝ }
 {
-    cd_face::put_cd(cd, m);
+    cd_plate::put_cd(cd, m);
 }
 
 // Writes the plate of a clip that hands one back; the number of the clip.
@@ -58,7 +58,7 @@ pub fn sigma_clip_loop_weighted(
         }
         return Refusal::Count.number();
     }
-    let m = cd_face::cd_in(cd);
+    let m = cd_plate::cd_in(cd);
     put_clip(
         cd_clip::sigma_clip_loop_weighted(px, py, xi, eta, mask, m, weights),
         cd,

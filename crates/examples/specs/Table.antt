@@ -1,9 +1,19 @@
--- The settled examples P1 to P12, as one table over the written meanings, each row by computation.
+-- The settled examples P1 to P13, as one table over the written meanings, each row by computation.
 use mathlib.Core.Path.{_≡_, refl}
 use mathlib.Core.List.{List, [], _∷_}
 use Prim.Native.Nat.{ℕ}
 use lib.IntN.{ℤ, pos}
 use lib.Ieee.{Float, binary64, ofBits, ofInt, toSigned, neg, mul, add, sub, div, lt, eq, le}
+use Rattle.floats.specs.Root.{rootOf}
+use Rattle.rows.specs.Rows.{Rows, rows, positionRows}
+use Rattle.cd_plate.specs.declared.Cd.{Cd}
+use Rattle.cd_plate.specs.Plate.{determinantOf, isCd, inverseOf, squareOf}
+use Rattle.cd_plate.specs.Filled.{filled}
+use Rattle.cd_mask.specs.Marks.{ones}
+use Rattle.cd_fit.specs.Fit.{weighedAnswer}
+use Rattle.cd_round.specs.Round.{squaresTo, clipOf, anyRejected}
+use Rattle.cd_clip.specs.declared.Clipped.the-variants as clipped
+use Rattle.cd_clip.specs.Clip.{roundOf, ended, clipFrom, clipTests, sigmaClip}
 use Rattle.floats.specs.Floor.{floorOf}
 use Rattle.domain.specs.Domain.{every}
 use Rattle.quad_spine.specs.declared.Spine.the-variants as spine
@@ -48,6 +58,18 @@ stars = ids (0 ∷ 1 ∷ []) (pos 7 ∷ pos 9 ∷ []) (pos 7 ∷ pos 9 ∷ [])
 abbrev votes : List Vote
 votes = votesOf (0 ∷ 0 ∷ 0 ∷ 1 ∷ 0 ∷ 0 ∷ 0 ∷ 0 ∷ 1 ∷ 1 ∷ 1 ∷ 255 ∷ 0 ∷ 1 ∷ 1 ∷ 255 ∷ [])
 
+-- three rows at one pixel, whose points are (0, 0), the least weight, and the plate that changes nothing
+abbrev eighths : Rows
+eighths =
+    let eighth = float 0x3fc0_0000_0000_0000 in
+    rows (eighth ∷ eighth ∷ eighth ∷ []) (zero ∷ zero ∷ zero ∷ []) (zero ∷ zero ∷ zero ∷ []) (zero ∷ zero ∷ zero ∷ [])
+
+abbrev least : Float
+least = float 1
+
+abbrev same : Cd
+same = record { cd1_1 = one; cd1_2 = zero; xi0 = zero; cd2_1 = zero; cd2_2 = one; eta0 = zero }
+
 -- the rows
 pub record Table : Type 0 where
   -- P1: the square's spine is 0 and 3, and its hash 0.5, -0.5, 0.5, 0.5
@@ -75,10 +97,12 @@ pub record Table : Type 0 where
   pub p12-third : votesFor stars votes 1 (pos 9) ≡ 2
   pub p12 : pairsOf stars votes 2 ≡ 0 ∷ []
   pub p12-id : idOf (stars .results) (chosenBy stars votes 0) ≡ pos 7
+  -- P13: under the unit CD three rows (0.125,0,0,0) of weight 2 ^ -1074: the clip turns all off, and is done
+  pub p13 : sigmaClip eighths (1 ∷ 1 ∷ 1 ∷ []) same (least ∷ least ∷ least ∷ []) ≡ ended (clipped.Done same) (0 ∷ 0 ∷ 0 ∷ [])
 
 -- each row holds by computation
 pub table : Table
-unfolding spineAnswer normalAnswer fourAnswer starsAnswer placesAnswer every starAt fourAt distSq longer longest inOrder oriented spineOf placesOf along across cFirst hashOf leastScale normalOf neighbourKey keyOf laneOf floorOf toSigned ofInt ofBits neg mul add sub div lt eq le poolOf placesFrom leastOf greatest nextWord votesOf counts isFor votesAt better choose claim paired pairsOf
+unfolding spineAnswer normalAnswer fourAnswer starsAnswer placesAnswer every starAt fourAt distSq longer longest inOrder oriented spineOf placesOf along across cFirst hashOf leastScale normalOf neighbourKey keyOf laneOf floorOf toSigned ofInt ofBits neg mul add sub div lt eq le poolOf placesFrom leastOf greatest nextWord votesOf counts isFor votesAt better choose claim paired pairsOf clipTests weighedAnswer positionRows isCd clipFrom roundOf filled ones squaresTo clipOf anyRejected determinantOf inverseOf squareOf rootOf
 table = record {
   p1-spine = refl;
   p1-hash = refl;
@@ -98,4 +122,5 @@ table = record {
   p12-third = refl;
   p12 = refl;
   p12-id = refl;
+  p13 = refl;
 }

@@ -1,13 +1,13 @@
--- `cd_face::put_cd` meets its contract: a list without room stays, and six stores from the front are what is written. Assumes nothing.
+-- `cd_plate::put_cd` meets its contract: a list without room stays, and six stores from the front are what is written. Assumes nothing.
 use lib.ListN.{length-set}
 use native.Mathlib.Omega.{arith}
 use mathlib.Core.Path.{refl}
 use borrow.Author.Tests.{lt-ltb, le-ltb}
 use borrow.Author.Needs.{needs}
 use Rattle.domain.proofs.Lent.{front}
-use Rattle.cd_face.specs.Face.{cdNumbers}
-use Rattle.cd_face.proofs.put_cd.Statement.{statement}
-use Rattle.cd_face.proofs.put_cd.Tie as tie
+use Rattle.cd_plate.specs.Six.{cdNumbers}
+use Rattle.cd_plate.proofs.put_cd.Statement.{statement}
+use Rattle.cd_plate.proofs.put_cd.Tie as tie
 
 returns : tie.Need-returns
 returns c = rw (lt-ltb _ _ (c .if1 .taken)) (refl, refl)
