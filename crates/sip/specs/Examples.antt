@@ -1,0 +1,2 @@
+-- Worked examples, each by computation.
+use mathlib.Core.Path.{_≡_, refl}
