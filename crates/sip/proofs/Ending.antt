@@ -1,5 +1,5 @@
 -- What the end of the rounds says of the answer and of the coefficients. Assumes nothing.
-use mathlib.Core.Path.{_≡_, refl, sym, ap, _∙_}
+use mathlib.Core.Path.{_≡_}
 use mathlib.Core.List.{List, _++_}
 use Prim.Native.Nat.{ℕ}
 use native.Mathlib.Omega.{arith}
@@ -14,9 +14,8 @@ use Rattle.sip_sums.specs.Field.{Field}
 use Rattle.sip_clip.specs.Clip.{errorsOf}
 use Rattle.sip_rms.specs.Rms.{linearRms, sipOf}
 use Rattle.sip_rounds.specs.Rounds.{Ended, endedAs}
-use Rattle.sip.specs.declared.SipFit.{SipFit}
 use Rattle.sip.specs.declared.SipFit.the-variants as fit
-use Rattle.sip.specs.Call.{sipAfter, coefficientsA, coefficientsB, answerOf}
+use Rattle.sip.specs.Call.{sipAfter, coefficientsA, coefficientsB}
 
 module _ (f : Field) (e : Ended) (r : Answer) (mask : List ℕ) (a b : List Float) (told : endedAs r mask a b ≡ e) where
   pub failed : (why : Refusal) → r ≡ answer.Refused why → fit.Refused why ≡ sipAfter f e

@@ -1,20 +1,17 @@
 -- What an input is like that passed its tests. Assumes nothing.
-use mathlib.Core.Path.{_≡_, refl, sym}
-use mathlib.Core.Bool.{Bool, true, false, cond, not, _&&_, _||_, and-eq-true-iff}
+use mathlib.Core.Path.{_≡_}
+use mathlib.Core.Bool.{false, not, _&&_, _||_, and-eq-true-iff}
 use Prim.Native.Nat.{ℕ, _≤_}
-use native.Mathlib.Omega.{arith}
 use lib.Dec.{ltb, leb, eqb}
 use lib.ListN.{length}
 use borrow.Author.Tests.{leb-true, eqb-true, ltb-false, not-false}
 use Rattle.domain.proofs.Passed.{passed, both, neither}
-use Rattle.domain.specs.declared.Refusal.the-variants as refusal
-use Rattle.domain.specs.declared.Answer.{Answer}
 use Rattle.domain.specs.declared.Answer.the-variants as answer
-use Rattle.rows.specs.Rows.{Rows, count, fewRows, evenRows}
+use Rattle.rows.specs.Rows.{count, fewRows, evenRows}
 use Rattle.cd_residuals.specs.declared.Wcs.{Wcs}
 use Rattle.sip_terms.specs.Terms.{termCount}
 use Rattle.sip_sums.specs.Field.{Field}
-use Rattle.sip.specs.Call.{fewField, evenField, goodField, fieldAnswer, noOrder, orderAnswer, testsAnswer}
+use Rattle.sip.specs.Call.{fewField, evenField, fieldAnswer, noOrder, orderAnswer, testsAnswer}
 
 -- at most a hundred rows, in five lists of one length
 pub record Even (f : Field) : Type 0 where

@@ -47,14 +47,7 @@ fn is_taken(wcs: Wcs) -> bool
 }
 
 // The tests of the lists and of the WCS, in their order.
-fn check_field(
-    px: &[f64],
-    py: &[f64],
-    xi: &[f64],
-    eta: &[f64],
-    snr: &[f64],
-    wcs: Wcs,
-) -> Answer
+fn check_field(px: &[f64], py: &[f64], xi: &[f64], eta: &[f64], snr: &[f64], wcs: Wcs) -> Answer
     ensures { λ r. ⌜ r ≡ fieldAnswer (field (rows (now (px .entry)) (now (py .entry)) (now (xi .entry)) (now (eta .entry))) (now (snr .entry)) wcs) ⌝ }
 {
     if !(rows::few_rows(px, py, xi, eta) & (snr.len() <= MOST_ROWS)) {

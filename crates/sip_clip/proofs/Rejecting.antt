@@ -1,12 +1,11 @@
 -- One clip, row by row, and what it leaves where it turns nothing off. Assumes nothing.
-use mathlib.Core.Path.{_≡_, refl, sym, ap, _∙_}
-use mathlib.Core.Bool.{Bool, true, false, cond, not, _&&_}
+use mathlib.Core.Path.{_≡_, refl, sym}
+use mathlib.Core.Bool.{Bool, true, false, not, _&&_}
 use mathlib.Core.List.{List, [], _∷_}
 use Prim.Native.Nat.{ℕ, zero, suc, _+_, _≤_, _<_}
-use native.Mathlib.Numerals.{add-one}
 use native.Mathlib.Omega.{arith}
 use lib.Dec.{eqb}
-use lib.ListN.{length, getD}
+use lib.ListN.{length}
 use lib.Ieee.{Float, nan}
 use borrow.Author.Tests.{eqb-true, eqb-false}
 use Rattle.rows.specs.Rows.{Rows, count}
@@ -16,7 +15,7 @@ use Rattle.cd_plate.specs.Masked.{isOn}
 use Rattle.cd_plate.specs.Filled.{filled}
 use Rattle.cd_residuals.specs.declared.Wcs.{Wcs}
 use Rattle.sip_terms.proofs.Told.{filled-at, filled-same}
-use Rattle.sip_clip.specs.Clip.{errorOf, errorAt, errorsOf, rootAt, rootsOf, isPast, rejectedTo, byteAt, clipped, clipBy, limitIn, clipOf}
+use Rattle.sip_clip.specs.Clip.{errorAt, errorsOf, rootAt, rootsOf, isPast, rejectedTo, byteAt, clipped, clipBy, limitIn, clipOf}
 use Rattle.sip_clip.specs.Steps.{pastIn, rejectedIn, maskIn}
 
 -- no more are turned off than there are

@@ -10,7 +10,7 @@ use Rattle.floats.specs.Root.{rootOf}
 use Rattle.cd_mask.specs.Marks.{ones}
 use Rattle.cd_plate.specs.Filled.{filled}
 use Rattle.sip_terms.specs.Terms.{termAt, valueTo}
-use Rattle.sip_clip.specs.Clip.{errorOf, weighedTo, rejectedTo, clipped, clipOf, limitIn}
+use Rattle.sip_clip.specs.Clip.{errorOf, weighedTo, rejectedTo, clipped, clipOf}
 
 -- a whole number as a float
 abbrev f : ℕ → Float

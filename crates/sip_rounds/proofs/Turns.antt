@@ -1,9 +1,8 @@
 -- One round off the count, and how it ends. Assumes nothing.
-use mathlib.Core.Path.{_≡_, refl, sym, ap, _∙_}
+use mathlib.Core.Path.{_≡_, refl, _∙_}
 use mathlib.Core.List.{List}
 use Prim.Native.Nat.{ℕ, suc, _+_, _-_, _≤_, _<_}
 use native.Mathlib.Omega.{arith}
-use lib.Dec.{eqb}
 use lib.ListN.{length}
 use lib.Ieee.{Float}
 use borrow.Author.Tests.{eq-eqb, ne-eqb}
@@ -13,9 +12,9 @@ use Rattle.domain.specs.declared.Answer.the-variants as answer
 use Rattle.rows.specs.Rows.{count}
 use Rattle.sip_sums.specs.Field.{Field}
 use Rattle.sip_solve.specs.Solve.{solveOf, coefficientsAs}
-use Rattle.sip_clip.specs.Clip.{Clipped, errorsOf, clipped, clipOf}
+use Rattle.sip_clip.specs.Clip.{errorsOf, clipped, clipOf}
 use Rattle.sip_clip.proofs.Rejecting.{errors-stay}
-use Rattle.sip_rounds.specs.Rounds.{Ended, Fitted, Failed, afterSolve, afterLast, roundsFrom, endedAs}
+use Rattle.sip_rounds.specs.Rounds.{Fitted, Failed, afterSolve, afterLast, roundsFrom, endedAs}
 
 module _ (f : Field) (n round : ℕ) (mask : List ℕ) (r : Answer) (a b : List Float) (solved : coefficientsAs r a b ≡ solveOf f mask n) where
   more : round < 10 → roundsFrom f n (10 - round) mask ≡ afterSolve f mask (coefficientsAs r a b) (roundsFrom f n (10 - (round + 1)))

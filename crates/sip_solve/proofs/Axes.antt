@@ -1,15 +1,15 @@
 -- One elimination of the equations of both axes is the elimination of each. Assumes nothing.
-use mathlib.Core.Path.{_≡_, refl, sym, ap, subst, _∙_}
+use mathlib.Core.Path.{_≡_, refl, sym, subst, _∙_}
 use mathlib.Core.Bool.{Bool, true, false, cond}
 use mathlib.Core.List.{List}
 use Prim.Native.Nat.{ℕ, zero, suc, _+_, _≤_, _<_}
 use native.Mathlib.Omega.{arith}
-use lib.Dec.{ltb, eqb}
+use lib.Dec.{ltb}
 use lib.Ieee.{Float}
-use borrow.Author.Tests.{ltb-false, lt-ltb, le-ltb, eq-eqb, ne-eqb}
+use borrow.Author.Tests.{lt-ltb, le-ltb, eq-eqb, ne-eqb}
 use Rattle.domain.specs.declared.Refusal.the-variants as refusal
 use Rattle.rows.specs.Rows.{count}
-use Rattle.elimination.specs.Elimination.{Matrix, cells, eliminated, unknowns, Solved, Unknowns, Singular, solution}
+use Rattle.elimination.specs.Elimination.{Matrix, cells, eliminated, unknowns, Solved, solution}
 use Rattle.elimination.specs.Holds.{Holds, Agrees}
 use Rattle.elimination.specs.declared.Eliminated.{Eliminated}
 use Rattle.elimination.specs.declared.Eliminated.the-variants as ended
@@ -20,7 +20,7 @@ use Rattle.sip_sums.specs.declared.Offset.{Offset}
 use Rattle.sip_sums.specs.Field.{Field}
 use Rattle.sip_sums.specs.Normal.{xOf, yOf, columnOf, entryTo, equationsOf}
 use Rattle.sip_sums.specs.Steps.{lineAt, bothOf}
-use Rattle.sip_solve.specs.Solve.{keptAll, axisOf, Coefficients, Found, None, bothAxes}
+use Rattle.sip_solve.specs.Solve.{keptAll, axisOf, Found, None, bothAxes}
 
 -- a number of the equations goes by its column alone
 entry-same : (f : Field) (mask : List ℕ) (p q : Offset → ℕ → Float) (i j h k : ℕ) → ((o : Offset) → p o j ≡ q o h) → entryTo f mask p i j k ≡ entryTo f mask q i h k

@@ -103,5 +103,18 @@ pub fn solve_both(
     let size = n * w;
     let mut line = [0.0; MOST_COLUMNS];
     let mut m = [0.0; MOST_NUMBERS];
-    solve_in(px, py, xi, eta, snr, wcs, mask, n, &mut line[..w], &mut m[..size], a, b)
+    solve_in(
+        px,
+        py,
+        xi,
+        eta,
+        snr,
+        wcs,
+        mask,
+        n,
+        &mut line[..w],
+        &mut m[..size],
+        a,
+        b,
+    )
 }

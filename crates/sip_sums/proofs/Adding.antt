@@ -1,27 +1,26 @@
 -- The equations with one row more, line by line. Assumes nothing.
-use mathlib.Core.Path.{_≡_, refl, sym, ap, _∙_}
+use mathlib.Core.Path.{_≡_, refl, ap, _∙_}
 use mathlib.Core.Bool.{Bool, true, false, cond, _&&_}
 use mathlib.Core.List.{List, _++_}
-use Prim.Native.Nat.{ℕ, suc, _+_, _*_, _-_, _≤_, _<_}
+use Prim.Native.Nat.{ℕ, _+_, _*_, _-_, _<_}
 use native.Mathlib.Numerals.{add-one}
 use native.Mathlib.Omega.{arith}
-use lib.Dec.{ltb, leb, eqb}
-use lib.ListN.{length, getD, set, take, drop, replicate, getD-replicate, length-drop}
+use lib.Dec.{eqb}
+use lib.ListN.{length, getD, take, drop, replicate, getD-replicate, length-drop}
 use lib.Seq.{getD-take, getD-drop, length-take-le}
 use lib.Ieee.{Float, nan}
 use borrow.Author.Tests.{eqb-true, lt-ltb, le-ltb, le-leb}
-use Rattle.cd_plate.specs.Plate.{_⊕_, _⊗_, nothing}
+use Rattle.cd_plate.specs.Plate.{_⊗_, nothing}
 use Rattle.cd_plate.specs.Masked.{isOn}
 use Rattle.cd_plate.specs.Filled.{filled}
 use Rattle.elimination.specs.Elimination.{Matrix, cells}
 use Rattle.elimination.specs.Holds.{Holds}
 use Rattle.elimination.proofs.Flat.{in-cell, in-row, tail-at}
 use Rattle.elimination.proofs.Turns.{upTo, other-below}
-use Rattle.sip_terms.specs.Terms.{basisOf}
 use Rattle.sip_terms.proofs.Told.{filled-at}
 use Rattle.sip_sums.specs.declared.Offset.{Offset}
 use Rattle.sip_sums.specs.Field.{Field, offsetAt, weightAt}
-use Rattle.sip_sums.specs.Normal.{plusIf, entryTo}
+use Rattle.sip_sums.specs.Normal.{entryTo}
 use Rattle.sip_sums.specs.Steps.{lineAt, More, withLine, withOffset, bothOf}
 
 -- a row of a flat matrix, lent and brought back

@@ -1,11 +1,10 @@
 -- A row's line, told number by number. Assumes nothing.
-use mathlib.Core.Path.{_≡_, refl, sym, ap, _∙_}
-use mathlib.Core.Bool.{cond}
-use mathlib.Core.List.{List, [], _∷_, _++_, append-nil}
-use Prim.Native.Nat.{ℕ, _+_, _≤_, _<_}
+use mathlib.Core.Path.{_≡_, refl, _∙_}
+use mathlib.Core.List.{List, _++_, append-nil}
+use Prim.Native.Nat.{ℕ, _+_, _≤_}
 use native.Mathlib.Omega.{arith}
-use lib.ListN.{length, getD, set, drop, take, drop-of-length-le, length-append, length-drop}
-use lib.Ieee.{Float, nan}
+use lib.ListN.{length, set, drop, drop-of-length-le, length-append, length-drop}
+use lib.Ieee.{Float}
 use borrow.Author.Tests.{lt-ltb, le-ltb, eq-eqb, ne-eqb}
 use Rattle.cd_plate.specs.Filled.{filled}
 use Rattle.cd_plate.proofs.Filling.{Front, again, filled-length}

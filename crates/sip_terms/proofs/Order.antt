@@ -1,12 +1,11 @@
 -- The terms by their places are those of `sip_monomial_terms`. Assumes nothing.
-use mathlib.Core.Path.{_≡_, refl, sym, ap, _∙_}
-use mathlib.Core.List.{List, [], _∷_, _++_, append-assoc}
+use mathlib.Core.Path.{_≡_, refl, _∙_}
+use mathlib.Core.List.{_++_, append-assoc}
 use Prim.Native.Nat.{ℕ, zero, suc, _+_, _-_}
 use native.Mathlib.Omega.{arith}
 use borrow.Author.Tests.{ne-eqb}
 use Rattle.cd_plate.specs.Filled.{filled}
-use Rattle.sip_terms.specs.declared.Term.{Term}
-use Rattle.sip_terms.specs.Terms.{nextTerm, termAt, countTo, termCount, degreeTerms, degreesTo, monomialTerms}
+use Rattle.sip_terms.specs.Terms.{termAt, countTo, termCount, degreeTerms, degreesTo, monomialTerms}
 
 -- p + 1 terms from place i on, where the term at i is u^p v^q, are the rest of its degree; the next degree follows
 degree-filled : (p q i : ℕ) → termAt i ≡ record { p = p; q = q } → (filled termAt (i + (p + 1)) ≡ filled termAt i ++ degreeTerms p q) × (termAt (i + (p + 1)) ≡ record { p = q + p + 1; q = 0 })

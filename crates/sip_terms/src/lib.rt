@@ -17,6 +17,7 @@ pub struct Sip {
 impl Sip {
     // The orders that are fitted.
     pub const LEAST_ORDER: u32 = 2;
+
     pub const MOST_ORDER: u32 = 5;
     // A fit needs so many rows, whatever its terms.
     pub const LEAST_ROWS: usize = 6;

@@ -1,50 +1,32 @@
+-- `sip::fit_checked` meets its contract: the lists that are lent are as long as the terms. Assumes nothing.
 use lib.Seq.{length-take-le}
-use denote.Ref.{now}
-use borrow.Author.Tests.{eq-eqb, ne-eqb, lt-ltb, le-ltb, le-leb, lt-leb, not-true, not-false}
-use lib.ListN.{length, length-set, take, drop, getD}
-use native.Mathlib.Omega.{arith}
-use native.Mathlib.Numerals.{add-one}
-use mathlib.Core.List.{_++_}
-use mathlib.Core.Logic.{⊎-elim}
-use mathlib.Core.Bool.{true, false}
-use mathlib.Core.Path.{_≡_, _∙_, refl, sym, ap}
-use Prim.Native.Nat.{_≤_, _<_, _+_, _-_, _*_}
+use mathlib.Core.Path.{sym}
+use Prim.Native.Nat.{_-_}
 use borrow.Author.Needs.{needs}
 use Rattle.sip.proofs.fit_checked.Statement.{statement}
 use Rattle.sip.proofs.fit_checked.Tie as tie
-use Rattle.sip.proofs.fit_checked.Reads as reads
-use Rattle.sip.proofs.fit_checked.Lts as lts
-use Rattle.sip.proofs.fit_into.Reads as fit-into-reads
 
--- src/lib.rt:247:44
 array-borrow-prefix-x : tie.Need-array-borrow-prefix-x
 array-borrow-prefix-x c = let s = c .before .before .before .before .before .before .before in s .pre .1 .1 .1 .1 .1 .0
 
--- src/lib.rt:247:44
 slice-aggregate-fit-into : tie.Need-slice-aggregate-fit-into
 slice-aggregate-fit-into c = let s = c .before .before .before .before .before .before .before .before in sym (length-take-le _ _ (s .pre .1 .1 .1 .1 .1 .0))
 
--- src/lib.rt:247:57
 array-borrow-prefix-y : tie.Need-array-borrow-prefix-y
 array-borrow-prefix-y c = let s = c .before .before .before .before .before .before .before .before in s .pre .1 .1 .1 .1 .1 .0
 
--- src/lib.rt:247:57
 slice-aggregate-fit-into-2 : tie.Need-slice-aggregate-fit-into-2
 slice-aggregate-fit-into-2 c = let s = c .before .before .before .before .before .before .before .before .before in sym (length-take-le _ _ (s .pre .1 .1 .1 .1 .1 .0))
 
--- src/lib.rt:247:5
 fit-into-requires : tie.Need-fit-into-requires
 fit-into-requires c κs = let s = c .before .before .before .before .before .before .before .before .before .before .before in (s .pre .0, (s .pre .1 .0, (s .pre .1 .1 .0, (s .pre .1 .1 .1 .0, (s .pre .1 .1 .1 .1 .0, (s .pre .1 .1 .1 .1 .1 .0, (length-take-le _ _ (s .pre .1 .1 .1 .1 .1 .0), (length-take-le _ _ (s .pre .1 .1 .1 .1 .1 .0), (s .pre .1 .1 .1 .1 .1 .1 .0, s .pre .1 .1 .1 .1 .1 .1 .1)))))))))
 
--- src/lib.rt:224:1
 same-length : tie.Need-same-length
 same-length c = search needs
 
--- src/lib.rt:224:1
 same-length-2 : tie.Need-same-length-2
 same-length-2 c = search needs
 
--- src/lib.rt:224:1
 returns : tie.Need-returns
 returns c = c .before .before .before .before .before .before .fit-into .ensures
 

@@ -1,60 +1,42 @@
+-- `sip::fit_sip` meets its contract: the tests decide, then the fit. Assumes nothing.
 use Rattle.sip.proofs.Passed.{tested-field, tested-order}
 use Rattle.sip_terms.proofs.Places.{few-terms}
 use Rattle.sip_sums.specs.Field.{field}
 use Rattle.rows.specs.Rows.{rows}
 use denote.Ref.{now}
-use borrow.Author.Tests.{eq-eqb, ne-eqb, lt-ltb, le-ltb, le-leb, lt-leb, not-true, not-false}
-use lib.ListN.{length, length-set, take, drop, getD}
+use lib.ListN.{length}
 use native.Mathlib.Omega.{arith}
-use native.Mathlib.Numerals.{add-one}
-use mathlib.Core.List.{_++_}
-use mathlib.Core.Logic.{⊎-elim}
-use mathlib.Core.Bool.{true, false}
-use mathlib.Core.Path.{_≡_, _∙_, refl, sym, ap}
-use Prim.Native.Nat.{_≤_, _<_, _+_, _-_, _*_}
+use mathlib.Core.Path.{_∙_, sym}
+use Prim.Native.Nat.{_-_}
 use borrow.Author.Needs.{needs}
 use Rattle.sip.proofs.fit_sip.Statement.{statement}
 use Rattle.sip.proofs.fit_sip.Tie as tie
-use Rattle.sip.proofs.fit_sip.Reads as reads
-use Rattle.sip.proofs.fit_sip.Lts as lts
-use Rattle.sip.proofs.check_call.Reads as check-call-reads
-use Rattle.sip.proofs.fit_checked.Reads as fit-checked-reads
-use Rattle.sip_terms.proofs.term_count.Reads as term-count-reads
 
--- src/lib.rt:270:11
 check-call-requires : tie.Need-check-call-requires
 check-call-requires c κs = search needs
 
--- src/lib.rt:271:25
 enum-known-why : tie.Need-enum-known-why
 enum-known-why c = search needs
 
--- src/lib.rt:273:17
 enum-told : tie.Need-enum-told
 enum-told c = search needs
 
--- src/lib.rt:273:17
 term-count-requires : tie.Need-term-count-requires
 term-count-requires c κs = let g = c .before .before .before .before .before .before .before .before .before .before .args in let f = field (rows (g .px .now) (g .py .now) (g .xi .now) (g .eta .now)) (g .snr .now) (g .wcs) in let o = tested-order f (g .order) (length (g .a .now)) (length (g .b .now)) (sym (c .before .before .check-call .ensures) ∙ c .enum-told .given .1) in (o .least, omega (arith, o .most))
 
--- src/lib.rt:274:13
 fit-checked-requires : tie.Need-fit-checked-requires
 fit-checked-requires c κs = let g = c .before .before .before .before .before .before .before .before .before .before .before .before .before .args in let f = field (rows (g .px .now) (g .py .now) (g .xi .now) (g .eta .now)) (g .snr .now) (g .wcs) in let e = sym (c .before .before .before .before .before .check-call .ensures) ∙ c .before .before .before .enum-told .given .1 in let o = tested-order f (g .order) (length (g .a .now)) (length (g .b .now)) e in let k = tested-field f (g .order) (length (g .a .now)) (length (g .b .now)) e in
     (k .py-long, (k .xi-long, (k .eta-long, (k .snr-long, (k .few, (rw (c .before .before .term-count .ensures) (few-terms (g .order) (o .most)), (rw (c .before .before .term-count .ensures) (o .room-a), rw (c .before .before .term-count .ensures) (o .room-b))))))))
 
--- src/lib.rt:252:1
 returns : tie.Need-returns
 returns c = (rw (← c .before .before .before .check-call .ensures, c .before .why .given .1), search needs)
 
--- src/lib.rt:252:1
 same-length : tie.Need-same-length
 same-length c = search needs
 
--- src/lib.rt:252:1
 same-length-2 : tie.Need-same-length-2
 same-length-2 c = search needs
 
--- src/lib.rt:252:1
 returns-2 : tie.Need-returns-2
 returns-2 c = let p = c .before .before .before .before .fit-checked in let t = c .before .before .before .before .before .before .before .term-count .ensures in (rw (← c .before .before .before .before .before .before .before .before .before .before .check-call .ensures, c .before .before .before .before .before .before .before .before .enum-told .given .1) (rw t at (p .ensures .0)), (rw t at (p .ensures .1 .0), rw t at (p .ensures .1 .1)))
 

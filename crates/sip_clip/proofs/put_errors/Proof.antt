@@ -1,23 +1,16 @@
+-- `sip_clip::put_errors` meets its contract: after k rows the first k places are filled. Assumes nothing.
 use borrow.Author.Needs.{needs}
 use Rattle.sip_clip.specs.Clip.{errorAt}
 use Rattle.cd_plate.proofs.Filling.{Front, start, again}
 use Rattle.rows.specs.Rows.{rows}
 use denote.Ref.{now}
-use borrow.Author.Tests.{eq-eqb, ne-eqb, lt-ltb, le-ltb, le-leb, lt-leb, not-true, not-false}
-use lib.ListN.{length, length-set, take, drop, getD, drop-of-length-le}
+use lib.ListN.{length, drop-of-length-le}
 use native.Mathlib.Omega.{arith}
-use native.Mathlib.Numerals.{add-one}
-use mathlib.Core.List.{_++_, append-nil}
-use mathlib.Core.Logic.{⊎-elim}
-use mathlib.Core.Bool.{true, false}
-use mathlib.Core.Path.{_≡_, _∙_, refl, sym, ap}
-use Prim.Native.Nat.{_≤_, _<_, _+_, _-_, _*_}
+use mathlib.Core.List.{append-nil}
+use mathlib.Core.Path.{_≡_, _∙_}
+use Prim.Native.Nat.{_≤_, _-_}
 use Rattle.sip_clip.proofs.put_errors.Statement.{statement}
 use Rattle.sip_clip.proofs.put_errors.Tie as tie
-use Rattle.sip_clip.proofs.put_errors.Reads as reads
-use Rattle.sip_clip.proofs.put_errors.Lts as lts
-use Rattle.sip_clip.proofs.error_if.Reads as error-if-reads
-use Rattle.sip_sums.proofs.offset_at.Reads as offset-at-reads
 
 abbrev Inv-loop : tie.InvT-loop
 Inv-loop px py xi eta wcs mask a b errors₀ k₀ k-end errors k = Front (errorAt (rows px py xi eta) wcs mask a b) errors₀ errors k × (k ≤ length px) × (k-end ≡ length px)
@@ -25,47 +18,36 @@ Inv-loop px py xi eta wcs mask a b errors₀ k₀ k-end errors k = Front (errorA
 abbrev μ-loop : tie.MeasureT-loop
 μ-loop px py xi eta wcs mask a b errors₀ k₀ k-end errors k = length px - k
 
--- src/lib.rt:57:5
 loop-holds : tie.Need-loop-holds Inv-loop μ-loop
 loop-holds c = (start, search needs, search needs)
 
--- src/lib.rt:58:13
 offset-at-requires : tie.Need-offset-at-requires Inv-loop μ-loop
 offset-at-requires c κs = search needs
 
--- src/lib.rt:59:30
 shared-slice-read-error-if : tie.Need-shared-slice-read-error-if Inv-loop μ-loop
 shared-slice-read-error-if c = search needs
 
--- src/lib.rt:59:21
 error-if-requires : tie.Need-error-if-requires Inv-loop μ-loop
 error-if-requires c κs = search needs
 
--- src/lib.rt:59:9
 mul-errors : tie.Need-mul-errors Inv-loop μ-loop
 mul-errors c = search needs
 
--- src/lib.rt:59:9
 slice-write-errors : tie.Need-slice-write-errors Inv-loop μ-loop
 slice-write-errors c = omega (arith, c .before .before .before .before .loop .inv .0 .long)
 
--- src/lib.rt:57:9
 add-k : tie.Need-add-k Inv-loop μ-loop
 add-k c = search needs
 
--- src/lib.rt:57:5
 loop-less : tie.Need-loop-less Inv-loop μ-loop
 loop-less c = search needs
 
--- src/lib.rt:57:5
 loop-again : tie.Need-loop-again Inv-loop μ-loop
 loop-again c = (again (c .error-if .result) (c .before .before .before .before .loop .inv .0) (omega arith) (rw (c .error-if .ensures, c .before .before .offset-at .ensures)), omega arith, search needs)
 
--- src/lib.rt:40:1
 same-length : tie.Need-same-length Inv-loop μ-loop
 same-length c = c .before .loop .inv .0 .long
 
--- src/lib.rt:40:1
 returns : tie.Need-returns Inv-loop μ-loop
 returns c = let l = c .before .loop in let a = c .before .before .before .before .before .before .before .before .before .before .args in let e : l .k ≡ length (a .px .now) = omega arith in l .inv .0 .is ∙ rw (e, drop-of-length-le (a .errors .now) {i = length (a .px .now)} (omega arith), append-nil)
 

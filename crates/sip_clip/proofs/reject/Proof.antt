@@ -1,3 +1,4 @@
+-- `sip_clip::reject` meets its contract: after k rows the first k bytes are clipped, and the others are as they were. Assumes nothing.
 use Rattle.cd_plate.specs.Masked.{isOn}
 use Rattle.cd_mask.proofs.Marking.{byte-small}
 use borrow.Author.Needs.{needs}
@@ -7,21 +8,15 @@ use Rattle.sip_clip.specs.Clip.{rejectedTo, byteAt}
 use Rattle.sip_terms.proofs.Told.{front-at}
 use Rattle.cd_plate.proofs.Filling.{Front, start, again}
 use denote.Ref.{now}
-use borrow.Author.Tests.{eq-eqb, ne-eqb, lt-ltb, le-ltb, le-leb, lt-leb, not-true, not-false}
-use lib.ListN.{length, length-set, take, drop, getD, drop-of-length-le}
+use lib.ListN.{length, getD, drop-of-length-le}
 use native.Mathlib.Omega.{arith}
 use native.Mathlib.Numerals.{add-one}
-use mathlib.Core.List.{_++_, append-nil}
-use mathlib.Core.Logic.{⊎-elim}
-use mathlib.Core.Bool.{true, false, _&&_}
-use mathlib.Core.Path.{_≡_, _∙_, refl, sym, ap}
-use Prim.Native.Nat.{_≤_, _<_, _+_, _-_, _*_}
+use mathlib.Core.List.{append-nil}
+use mathlib.Core.Bool.{_&&_}
+use mathlib.Core.Path.{_≡_, _∙_, refl}
+use Prim.Native.Nat.{_≤_, _-_}
 use Rattle.sip_clip.proofs.reject.Statement.{statement}
 use Rattle.sip_clip.proofs.reject.Tie as tie
-use Rattle.sip_clip.proofs.reject.Reads as reads
-use Rattle.sip_clip.proofs.reject.Lts as lts
-use Rattle.sip_clip.proofs.byte_of.Reads as byte-of-reads
-use Rattle.sip_clip.proofs.number_of.Reads as number-of-reads
 
 abbrev Inv-loop : tie.InvT-loop
 Inv-loop errors roots limit mask₀ n rejected₀ k₀ mask rejected k = Front (byteAt (pastIn errors roots limit) mask₀) mask₀ mask k × (rejected ≡ rejectedIn mask₀ errors roots limit k) × (k ≤ n) × (n ≡ length mask₀)
@@ -29,68 +24,56 @@ Inv-loop errors roots limit mask₀ n rejected₀ k₀ mask rejected k = Front (
 abbrev μ-loop : tie.MeasureT-loop
 μ-loop errors roots limit mask₀ n rejected₀ k₀ mask rejected k = n - k
 
--- src/lib.rt:125:5
 loop-holds : tie.Need-loop-holds Inv-loop μ-loop
 unfolding rejectedTo
 loop-holds c = (start, refl, search needs, search needs)
 
--- src/lib.rt:126:18
 slice-read-on : tie.Need-slice-read-on Inv-loop μ-loop
 slice-read-on c = omega (arith, c .before .before .loop .inv .0 .long)
 
--- src/lib.rt:127:20
 mul-past : tie.Need-mul-past Inv-loop μ-loop
 mul-past c = search needs
 
--- src/lib.rt:127:20
 shared-slice-read-past : tie.Need-shared-slice-read-past Inv-loop μ-loop
 shared-slice-read-past c = search needs
 
--- src/lib.rt:127:32
 mul-past-2 : tie.Need-mul-past-2 Inv-loop μ-loop
 mul-past-2 c = search needs
 
--- src/lib.rt:127:32
 shared-slice-read-past-2 : tie.Need-shared-slice-read-past-2 Inv-loop μ-loop
 shared-slice-read-past-2 c = search needs
 
--- src/lib.rt:128:21
 number-of-requires : tie.Need-number-of-requires Inv-loop μ-loop
 number-of-requires c κs = search needs
 
--- src/lib.rt:128:9
 add-rejected : tie.Need-add-rejected Inv-loop μ-loop
 add-rejected c = let l = c .before .before .before .before .before .loop in let a = c .before .before .before .before .before .before .before .before .before .args in omega (arith, l .inv .1, rejected-few (pastIn (a .errors .now) (a .roots .now) (a .limit)) (a .mask .now) (l .k), byte-small (isOn (l .mask) (l .k) && pastIn (a .errors .now) (a .roots .now) (a .limit) (l .k)) (c .number-of .ensures))
 
--- src/lib.rt:129:19
 byte-of-requires : tie.Need-byte-of-requires Inv-loop μ-loop
 byte-of-requires c κs = search needs
 
--- src/lib.rt:129:9
 slice-write-mask : tie.Need-slice-write-mask Inv-loop μ-loop
 slice-write-mask c = omega (arith, c .before .before .before .before .before .before .loop .inv .0 .long)
 
--- src/lib.rt:125:9
 add-k : tie.Need-add-k Inv-loop μ-loop
 add-k c = search needs
 
--- src/lib.rt:125:5
 loop-less : tie.Need-loop-less Inv-loop μ-loop
 loop-less c = search needs
 
--- src/lib.rt:125:5
 loop-again : tie.Need-loop-again Inv-loop μ-loop
 unfolding rejectedTo
 loop-again c = let l = c .before .before .before .before .before .before .loop in let a = c .before .before .before .before .before .before .before .before .before .before .args in
-    let d : getD (l .mask) (l .k) 0 ≡ getD (a .mask .now) (l .k) 0 = rw (l .inv .0 .is) (front-at (byteAt (pastIn (a .errors .now) (a .roots .now) (a .limit)) (a .mask .now)) (l .k) (a .mask .now) 0) in
-    (again (c .byte-of .result) (l .inv .0) (omega arith) (c .byte-of .ensures ∙ rw d),
-    rw (add-one (l .k), l .inv .1, c .before .number-of .ensures, d), omega arith, search needs)
+    let d : getD (l .mask) (l .k) 0 ≡ getD (a .mask .now) (l .k) 0 = rw (l .inv .0 .is) (front-at (byteAt (pastIn (a .errors .now) (a .roots .now) (a .limit)) (a .mask .now)) (l .k) (a .mask .now) 0) in (
+      again (c .byte-of .result) (l .inv .0) (omega arith) (c .byte-of .ensures ∙ rw d),
+      rw (add-one (l .k), l .inv .1, c .before .number-of .ensures, d),
+      omega arith,
+      search needs,
+    )
 
--- src/lib.rt:118:1
 same-length : tie.Need-same-length Inv-loop μ-loop
 same-length c = c .before .loop .inv .0 .long
 
--- src/lib.rt:118:1
 returns : tie.Need-returns Inv-loop μ-loop
 returns c = let l = c .before .loop in let a = c .before .before .before .before .before .args in let e : l .k ≡ length (a .mask .now) = omega arith in (rw (← e) (l .inv .1), l .inv .0 .is ∙ rw (e, drop-of-length-le (a .mask .now) {i = length (a .mask .now)} (omega arith), append-nil))
 

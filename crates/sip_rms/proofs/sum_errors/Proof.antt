@@ -1,21 +1,14 @@
+-- `sip_rms::sum_errors` meets its contract: after k rows the sums are those of the first k. Assumes nothing.
 use borrow.Author.Needs.{needs}
 use Rattle.sip_rms.specs.Rms.{totalsTo}
 use denote.Ref.{now}
-use borrow.Author.Tests.{eq-eqb, ne-eqb, lt-ltb, le-ltb, le-leb, lt-leb, not-true, not-false}
-use lib.ListN.{length, length-set, take, drop, getD}
+use lib.ListN.{length}
 use native.Mathlib.Omega.{arith}
 use native.Mathlib.Numerals.{add-one}
-use mathlib.Core.List.{_++_}
-use mathlib.Core.Logic.{⊎-elim}
-use mathlib.Core.Bool.{true, false}
-use mathlib.Core.Path.{_≡_, _∙_, refl, sym, ap}
-use Prim.Native.Nat.{_≤_, _<_, _+_, _-_, _*_}
+use mathlib.Core.Path.{_≡_, _∙_}
+use Prim.Native.Nat.{_≤_, _-_}
 use Rattle.sip_rms.proofs.sum_errors.Statement.{statement}
 use Rattle.sip_rms.proofs.sum_errors.Tie as tie
-use Rattle.sip_rms.proofs.sum_errors.Reads as reads
-use Rattle.sip_rms.proofs.sum_errors.Lts as lts
-use Rattle.sip_rms.proofs.Totals.new.Reads as new-reads
-use Rattle.sip_rms.proofs.Totals.with_error_if.Reads as with-error-if-reads
 
 abbrev Inv-loop : tie.InvT-loop
 Inv-loop snr mask errors t₀ k₀ k-end t k = (t ≡ totalsTo snr mask errors k) × (k ≤ length snr) × (k-end ≡ length snr)
@@ -23,53 +16,41 @@ Inv-loop snr mask errors t₀ k₀ k-end t k = (t ≡ totalsTo snr mask errors k
 abbrev μ-loop : tie.MeasureT-loop
 μ-loop snr mask errors t₀ k₀ k-end t k = length snr - k
 
--- src/lib.rt:104:9
 new-requires : tie.Need-new-requires Inv-loop μ-loop
 new-requires c κs = search needs
 
--- src/lib.rt:105:5
 loop-holds : tie.Need-loop-holds Inv-loop μ-loop
 unfolding totalsTo
 loop-holds c = (c .new .ensures, search needs, search needs)
 
--- src/lib.rt:106:17
 mul-s : tie.Need-mul-s Inv-loop μ-loop
 mul-s c = search needs
 
--- src/lib.rt:106:17
 shared-slice-read-s : tie.Need-shared-slice-read-s Inv-loop μ-loop
 shared-slice-read-s c = search needs
 
--- src/lib.rt:107:29
 shared-slice-read-with-error-if : tie.Need-shared-slice-read-with-error-if Inv-loop μ-loop
 shared-slice-read-with-error-if c = search needs
 
--- src/lib.rt:107:50
 mul-with-error-if : tie.Need-mul-with-error-if Inv-loop μ-loop
 mul-with-error-if c = search needs
 
--- src/lib.rt:107:50
 shared-slice-read-with-error-if-2 : tie.Need-shared-slice-read-with-error-if-2 Inv-loop μ-loop
 shared-slice-read-with-error-if-2 c = search needs
 
--- src/lib.rt:107:9
 with-error-if-requires : tie.Need-with-error-if-requires Inv-loop μ-loop
 with-error-if-requires c κs = search needs
 
--- src/lib.rt:105:9
 add-k : tie.Need-add-k Inv-loop μ-loop
 add-k c = search needs
 
--- src/lib.rt:105:5
 loop-less : tie.Need-loop-less Inv-loop μ-loop
 loop-less c = search needs
 
--- src/lib.rt:105:5
 loop-again : tie.Need-loop-again Inv-loop μ-loop
 unfolding totalsTo
 loop-again c = let l = c .before .before .before .before .before .loop in (c .with-error-if .ensures ∙ rw (add-one (l .k), l .inv .0), omega arith, search needs)
 
--- src/lib.rt:100:1
 returns : tie.Need-returns Inv-loop μ-loop
 returns c = let l = c .before .loop in let e : l .k ≡ length (c .before .before .before .before .before .before .args .snr .now) = omega arith in rw (← e) (l .inv .0)
 

@@ -1,23 +1,17 @@
+-- `sip_solve::keep_all` meets its contract: after k coefficients the first k are as they are handed out. Assumes nothing.
 use borrow.Author.Needs.{needs}
 use Rattle.sip_solve.specs.Solve.{keptAt}
 use Rattle.sip_terms.proofs.Told.{front-at}
 use Rattle.cd_plate.proofs.Filling.{Front, start, again}
 use lib.Ieee.{nan}
 use denote.Ref.{now}
-use borrow.Author.Tests.{eq-eqb, ne-eqb, lt-ltb, le-ltb, le-leb, lt-leb, not-true, not-false}
-use lib.ListN.{length, length-set, take, drop, getD, drop-of-length-le}
+use lib.ListN.{length, drop-of-length-le}
 use native.Mathlib.Omega.{arith}
-use native.Mathlib.Numerals.{add-one}
-use mathlib.Core.List.{_++_, append-nil}
-use mathlib.Core.Logic.{⊎-elim}
-use mathlib.Core.Bool.{true, false}
-use mathlib.Core.Path.{_≡_, _∙_, refl, sym, ap}
-use Prim.Native.Nat.{_≤_, _<_, _+_, _-_, _*_}
+use mathlib.Core.List.{append-nil}
+use mathlib.Core.Path.{_≡_, _∙_}
+use Prim.Native.Nat.{_≤_, _-_}
 use Rattle.sip_solve.proofs.keep_all.Statement.{statement}
 use Rattle.sip_solve.proofs.keep_all.Tie as tie
-use Rattle.sip_solve.proofs.keep_all.Reads as reads
-use Rattle.sip_solve.proofs.keep_all.Lts as lts
-use Rattle.sip_terms.proofs.keep.Reads as keep-reads
 
 abbrev Inv-loop : tie.InvT-loop
 Inv-loop x₀ n k₀ x k = Front (keptAt x₀) x₀ x k × (k ≤ n) × (n ≡ length x₀)
@@ -25,47 +19,36 @@ Inv-loop x₀ n k₀ x k = Front (keptAt x₀) x₀ x k × (k ≤ n) × (n ≡ l
 abbrev μ-loop : tie.MeasureT-loop
 μ-loop x₀ n k₀ x k = n - k
 
--- src/lib.rt:26:5
 loop-holds : tie.Need-loop-holds Inv-loop μ-loop
 loop-holds c = (start, search needs, search needs)
 
--- src/lib.rt:27:32
 mul-keep : tie.Need-mul-keep Inv-loop μ-loop
 mul-keep c = search needs
 
--- src/lib.rt:27:32
 slice-read-keep : tie.Need-slice-read-keep Inv-loop μ-loop
 slice-read-keep c = omega (arith, c .before .before .loop .inv .0 .long)
 
--- src/lib.rt:27:16
 keep-requires : tie.Need-keep-requires Inv-loop μ-loop
 keep-requires c κs = search needs
 
--- src/lib.rt:27:9
 mul-x : tie.Need-mul-x Inv-loop μ-loop
 mul-x c = search needs
 
--- src/lib.rt:27:9
 slice-write-x : tie.Need-slice-write-x Inv-loop μ-loop
 slice-write-x c = omega (arith, c .before .before .before .loop .inv .0 .long)
 
--- src/lib.rt:26:9
 add-k : tie.Need-add-k Inv-loop μ-loop
 add-k c = search needs
 
--- src/lib.rt:26:5
 loop-less : tie.Need-loop-less Inv-loop μ-loop
 loop-less c = search needs
 
--- src/lib.rt:26:5
 loop-again : tie.Need-loop-again Inv-loop μ-loop
 loop-again c = let l = c .before .before .before .loop in let a = c .before .before .before .before .before .args in (again (c .keep .result) (l .inv .0) (omega arith) (c .keep .ensures ∙ rw (l .inv .0 .is, front-at (keptAt (a .x .now)) (l .k) (a .x .now) nan)), omega arith, search needs)
 
--- src/lib.rt:22:1
 same-length : tie.Need-same-length Inv-loop μ-loop
 same-length c = c .before .loop .inv .0 .long
 
--- src/lib.rt:22:1
 returns : tie.Need-returns Inv-loop μ-loop
 returns c = let l = c .before .loop in let a = c .before .before .before .args in let e : l .k ≡ length (a .x .now) = omega arith in l .inv .0 .is ∙ rw (e, drop-of-length-le (a .x .now) {i = length (a .x .now)} (omega arith), append-nil)
 

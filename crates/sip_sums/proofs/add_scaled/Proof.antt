@@ -1,21 +1,15 @@
+-- `sip_sums::add_scaled` meets its contract: the places below k are done, the others as they were. Assumes nothing.
 use borrow.Author.Needs.{needs}
 use Rattle.elimination.proofs.Turns.{Front, front-none, front-next, front-more, front-all}
 use Rattle.cd_plate.specs.Plate.{_⊕_, _⊗_}
 use lib.Ieee.{Float, nan}
 use denote.Ref.{now}
-use borrow.Author.Tests.{eq-eqb, ne-eqb, lt-ltb, le-ltb, le-leb, lt-leb, not-true, not-false}
-use lib.ListN.{length, length-set, take, drop, getD}
+use lib.ListN.{length, length-set, getD}
 use native.Mathlib.Omega.{arith}
-use native.Mathlib.Numerals.{add-one}
-use mathlib.Core.List.{_++_}
-use mathlib.Core.Logic.{⊎-elim}
-use mathlib.Core.Bool.{true, false}
-use mathlib.Core.Path.{_≡_, _∙_, refl, sym, ap}
-use Prim.Native.Nat.{_≤_, _<_, _+_, _-_, _*_, ℕ}
+use mathlib.Core.Path.{_≡_}
+use Prim.Native.Nat.{_≤_, _<_, _-_, ℕ}
 use Rattle.sip_sums.proofs.add_scaled.Statement.{statement}
 use Rattle.sip_sums.proofs.add_scaled.Tie as tie
-use Rattle.sip_sums.proofs.add_scaled.Reads as reads
-use Rattle.sip_sums.proofs.add_scaled.Lts as lts
 
 abbrev Inv-loop : tie.InvT-loop
 Inv-loop row₀ line factor k₀ k-end row k = Front k (λ i. getD row₀ i nan ⊕ factor ⊗ getD line i nan) (λ i. getD row₀ i nan) row × (length row ≡ length row₀) × (length line ≡ length row₀) × (k ≤ length row₀) × (k-end ≡ length line)
@@ -23,43 +17,33 @@ Inv-loop row₀ line factor k₀ k-end row k = Front k (λ i. getD row₀ i nan 
 abbrev μ-loop : tie.MeasureT-loop
 μ-loop row₀ line factor k₀ k-end row k = k-end - k
 
--- src/lib.rt:82:5
 loop-holds : tie.Need-loop-holds Inv-loop μ-loop
 loop-holds c = (front-none (λ i. getD (c .args .row .now) i nan ⊕ c .args .factor ⊗ getD (c .args .line .now) i nan) (c .args .row .now), search needs, search needs, search needs, search needs)
 
--- src/lib.rt:83:18
 mul-row : tie.Need-mul-row Inv-loop μ-loop
 mul-row c = search needs
 
--- src/lib.rt:83:18
 slice-read-row : tie.Need-slice-read-row Inv-loop μ-loop
 slice-read-row c = search needs
 
--- src/lib.rt:83:36
 mul-row-2 : tie.Need-mul-row-2 Inv-loop μ-loop
 mul-row-2 c = search needs
 
--- src/lib.rt:83:36
 shared-slice-read-row : tie.Need-shared-slice-read-row Inv-loop μ-loop
 shared-slice-read-row c = search needs
 
--- src/lib.rt:83:9
 mul-row-3 : tie.Need-mul-row-3 Inv-loop μ-loop
 mul-row-3 c = search needs
 
--- src/lib.rt:83:9
 slice-write-row : tie.Need-slice-write-row Inv-loop μ-loop
 slice-write-row c = search needs
 
--- src/lib.rt:82:9
 add-k : tie.Need-add-k Inv-loop μ-loop
 add-k c = search needs
 
--- src/lib.rt:82:5
 loop-less : tie.Need-loop-less Inv-loop μ-loop
 loop-less c = search needs
 
--- src/lib.rt:82:5
 loop-again : tie.Need-loop-again Inv-loop μ-loop
 loop-again c = let l = c .before .before .before in let a = l .before .args in
     let t : l .loop .k < length (l .loop .row) = omega arith in
@@ -72,11 +56,9 @@ loop-again c = let l = c .before .before .before in let a = l .before .args in
       search needs,
     )
 
--- src/lib.rt:78:1
 same-length : tie.Need-same-length Inv-loop μ-loop
 same-length c = search needs
 
--- src/lib.rt:78:1
 returns : tie.Need-returns Inv-loop μ-loop
 returns c = let l = c .before in let a = l .before .args in
     λ i h. front-all (l .loop .k) (λ i. getD (a .row .now) i nan ⊕ a .factor ⊗ getD (a .line .now) i nan) (λ i. getD (a .row .now) i nan) (l .loop .row) (l .loop .inv .0) i (omega arith) (omega arith)

@@ -1,24 +1,16 @@
+-- `sip_terms::value` meets its contract: after i terms the sum is that of the first i. Assumes nothing.
 use borrow.Author.Needs.{needs}
 use Rattle.sip_terms.proofs.Places.{low-term, term-more}
 use Rattle.sip_terms.specs.Steps.{valueIn}
 use Rattle.sip_terms.specs.Terms.{termAt}
 use denote.Ref.{now}
-use borrow.Author.Tests.{eq-eqb, ne-eqb, lt-ltb, le-ltb, le-leb, lt-leb, not-true, not-false}
-use lib.ListN.{length, length-set, take, drop, getD}
+use lib.ListN.{length}
 use native.Mathlib.Omega.{arith}
 use native.Mathlib.Numerals.{add-one}
-use mathlib.Core.List.{_++_}
-use mathlib.Core.Logic.{⊎-elim}
-use mathlib.Core.Bool.{true, false}
-use mathlib.Core.Path.{_≡_, _∙_, refl, sym, ap}
-use Prim.Native.Nat.{_≤_, _<_, _+_, _-_, _*_}
+use mathlib.Core.Path.{_≡_, _∙_, refl}
+use Prim.Native.Nat.{_≤_, _-_}
 use Rattle.sip_terms.proofs.value.Statement.{statement}
 use Rattle.sip_terms.proofs.value.Tie as tie
-use Rattle.sip_terms.proofs.value.Reads as reads
-use Rattle.sip_terms.proofs.value.Lts as lts
-use Rattle.sip_terms.proofs.Term.first.Reads as first-reads
-use Rattle.sip_terms.proofs.Term.next.Reads as next-reads
-use Rattle.sip_terms.proofs.with_term.Reads as with-term-reads
 
 abbrev Inv-loop : tie.InvT-loop
 Inv-loop cs up vp n s₀ t₀ i₀ s t i = (s ≡ valueIn cs up vp i) × (t ≡ termAt i) × (i ≤ n) × (n ≡ length cs)
@@ -26,61 +18,47 @@ Inv-loop cs up vp n s₀ t₀ i₀ s t i = (s ≡ valueIn cs up vp i) × (t ≡ 
 abbrev μ-loop : tie.MeasureT-loop
 μ-loop cs up vp n s₀ t₀ i₀ s t i = n - i
 
--- src/lib.rt:138:9
 first-requires : tie.Need-first-requires Inv-loop μ-loop
 first-requires c κs = search needs
 
--- src/lib.rt:139:5
 loop-holds : tie.Need-loop-holds Inv-loop μ-loop
 unfolding termAt valueIn
 loop-holds c = (refl, c .first .ensures, search needs, search needs)
 
--- src/lib.rt:142:26
 mul-with-term : tie.Need-mul-with-term Inv-loop μ-loop
 mul-with-term c = search needs
 
--- src/lib.rt:142:26
 shared-slice-read-with-term : tie.Need-shared-slice-read-with-term Inv-loop μ-loop
 shared-slice-read-with-term c = search needs
 
--- src/lib.rt:142:33
 mul-with-term-2 : tie.Need-mul-with-term-2 Inv-loop μ-loop
 mul-with-term-2 c = let l = c .before .before .loop in omega (arith, low-term (l .t) (l .i) (l .inv .1) (omega arith))
 
--- src/lib.rt:142:33
 shared-slice-read-with-term-2 : tie.Need-shared-slice-read-with-term-2 Inv-loop μ-loop
 shared-slice-read-with-term-2 c = let l = c .before .before .before .loop in omega (arith, low-term (l .t) (l .i) (l .inv .1) (omega arith))
 
--- src/lib.rt:142:40
 mul-with-term-3 : tie.Need-mul-with-term-3 Inv-loop μ-loop
 mul-with-term-3 c = let l = c .before .before .before .loop in omega (arith, low-term (l .t) (l .i) (l .inv .1) (omega arith))
 
--- src/lib.rt:142:40
 shared-slice-read-with-term-3 : tie.Need-shared-slice-read-with-term-3 Inv-loop μ-loop
 shared-slice-read-with-term-3 c = let l = c .before .before .before .before .loop in omega (arith, low-term (l .t) (l .i) (l .inv .1) (omega arith))
 
--- src/lib.rt:142:9
 with-term-requires : tie.Need-with-term-requires Inv-loop μ-loop
 with-term-requires c κs = search needs
 
--- src/lib.rt:143:9
 next-requires : tie.Need-next-requires Inv-loop μ-loop
 next-requires c κs = let l = c .before .before .before .before .before .loop in omega (arith, low-term (l .t) (l .i) (l .inv .1) (omega arith))
 
--- src/lib.rt:139:9
 add-i : tie.Need-add-i Inv-loop μ-loop
 add-i c = search needs
 
--- src/lib.rt:139:5
 loop-less : tie.Need-loop-less Inv-loop μ-loop
 loop-less c = search needs
 
--- src/lib.rt:139:5
 loop-again : tie.Need-loop-again Inv-loop μ-loop
 unfolding valueIn
 loop-again c = let l = c .before .before .before .before .before .before .loop in (c .before .with-term .ensures ∙ rw (add-one (l .i), l .inv .0, l .inv .1), term-more (l .t) (c .next .result) (l .i) (l .inv .1) (c .next .ensures), omega arith, search needs)
 
--- src/lib.rt:131:1
 returns : tie.Need-returns Inv-loop μ-loop
 returns c = let l = c .before .loop in let e : l .i ≡ length (c .before .before .before .before .before .before .args .cs .now) = omega arith in rw (← e) (l .inv .0)
 

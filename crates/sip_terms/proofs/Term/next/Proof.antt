@@ -1,27 +1,21 @@
+-- `sip_terms::Term::next` meets its contract: each return stands for its test. Assumes nothing.
 use borrow.Author.Tests.{eq-eqb, ne-eqb}
 use borrow.Author.Needs.{needs}
 use Rattle.sip_terms.proofs.Term.next.Statement.{statement}
 use Rattle.sip_terms.proofs.Term.next.Tie as tie
-use Rattle.sip_terms.proofs.Term.next.Reads as reads
-use Rattle.sip_terms.proofs.Term.next.Lts as lts
 
--- src/lib.rt:52:20
 add-t3 : tie.Need-add-t3
 add-t3 c = search needs
 
--- src/lib.rt:51:13
 returns : tie.Need-returns
 returns c = rw (eq-eqb _ _ (c .before .if1 .taken))
 
--- src/lib.rt:57:16
 sub-t4 : tie.Need-sub-t4
 sub-t4 c = search needs
 
--- src/lib.rt:58:16
 add-t5 : tie.Need-add-t5
 add-t5 c = search needs
 
--- src/lib.rt:46:5
 returns-2 : tie.Need-returns-2
 returns-2 c = rw (ne-eqb _ _ (c .before .before .if1 .left))
 
