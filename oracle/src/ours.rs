@@ -2,6 +2,7 @@
 
 pub mod cd;
 pub mod matching;
+pub mod sip;
 
 #[link(name = "moorspindle", kind = "static")]
 unsafe extern "C" {

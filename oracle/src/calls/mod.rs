@@ -8,8 +8,9 @@ mod cd;
 mod floats;
 mod matching;
 mod quad;
+pub mod sip;
 
-pub const GROUPS: &[Group] = &[floats::GROUP, quad::GROUP, matching::GROUP, cd::GROUP];
+pub const GROUPS: &[Group] = &[floats::GROUP, quad::GROUP, matching::GROUP, cd::GROUP, sip::GROUP];
 
 /// A call of Moorspindle's, its cases, and the two sources of its answers.
 pub struct Call {

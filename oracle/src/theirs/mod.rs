@@ -6,6 +6,7 @@ pub mod cd;
 pub mod matching;
 pub mod quad;
 mod rows;
+pub mod sip;
 
 /// The number of the first refusal, or what was asked for.
 type Tested<T> = Result<T, u32>;
@@ -14,6 +15,8 @@ const COUNT: u32 = 1;
 const LENGTHS: u32 = 2;
 const VALUE: u32 = 3;
 const PLACE: u32 = 4;
+const ORDER: u32 = 5;
+const ROWS: u32 = 6;
 const ROOM: u32 = 7;
 const DEGENERATE: u32 = 8;
 
