@@ -109,4 +109,11 @@ uint32_t moorspindle_rms_error(const double *err_px, size_t, double *rms);
 uint32_t moorspindle_weighted_rms_error(const double *err_px, size_t, const double *weights, size_t, double *rms);
 uint32_t moorspindle_solve_normal_equations(const double *a, size_t, const double *b, size_t,
         uint32_t n, double *x, size_t);
+
+/* ---- sip.rs: fit_sip answers 1 2 3 5 6 7 8; of the solves' 6 and 8 the first met. A dropped
+   coefficient is 0.0; sums: linear_rms, rms, wrms */
+uint32_t moorspindle_fit_sip(const double *px, size_t, const double *py, size_t,
+        const double *xi, size_t, const double *eta, size_t, const double *snr, size_t,
+        const double *wcs, size_t, uint32_t order,
+        double *a, size_t, double *b, size_t, uint64_t *rows_used, double *sums, size_t);
 #endif

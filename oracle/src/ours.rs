@@ -3,6 +3,7 @@
 pub mod cd;
 pub mod matching;
 pub mod run;
+pub mod sip;
 
 #[link(name = "moorspindle", kind = "static")]
 unsafe extern "C" {

@@ -25,6 +25,9 @@ ghost use Rattle.cd_normal.specs.Normal.{normalSolved, unknownsOf, normalAnswer
 ghost use Rattle.cd_residuals.specs.Residuals.{residualsX, residualsY, residualsPx, foundOf};
 ghost use Rattle.cd_face.specs.Face.{fitFace, fitWritten, weightedFit, wcsIn, errorsFace, errorsWritten, residualsFace, valueAfter, rmsFace, rmsValue};
 ghost use Rattle.cd_face.specs.Face.{weightedFace, weightedValue};
+ghost use Rattle.sip_sums.specs.Field.{field};
+ghost use Rattle.sip.specs.Call.{sipA, sipB};
+ghost use Rattle.sip_face.specs.Face.{usedIn, sumsIn, sipTold, sipFace};
 
 // ---- floats
 
@@ -561,4 +564,40 @@ pub extern "C" fn moorspindle_solve_normal_equations(
         (now (x .entry)) ⌝ }
 {
     cd_face::solve_normal_equations(a, b, n, x)
+}
+
+// ---- SIP
+
+#[no_mangle]
+pub extern "C" fn moorspindle_fit_sip(
+    px: &[f64],
+    py: &[f64],
+    xi: &[f64],
+    eta: &[f64],
+    snr: &[f64],
+    wcs: &[f64],
+    order: u32,
+    a: &mut [f64],
+    b: &mut [f64],
+    rows_used: &mut u64,
+    sums: &mut [f64],
+) -> u32
+    ensures number { λ r. ⌜ r ≡ answerNumber (sipFace (rows (now (px .entry)) (now (py .entry)) (now (xi .entry)) (now (eta .entry))) (now (snr .entry)) (now (wcs .entry)) order
+        (length (now (a .entry))) (length (now (b .entry))) (length (now (sums .entry)))) ⌝ }
+    ensures a { λ r. ⌜ now (a .exit) ≡ lentAfter (sipFace (rows (now (px .entry)) (now (py .entry)) (now (xi .entry)) (now (eta .entry))) (now (snr .entry)) (now (wcs .entry)) order
+        (length (now (a .entry))) (length (now (b .entry))) (length (now (sums .entry))))
+        (sipA (field (rows (now (px .entry)) (now (py .entry)) (now (xi .entry)) (now (eta .entry))) (now (snr .entry)) (wcsIn (now (wcs .entry)))) order) (now (a .entry)) ⌝ }
+    ensures b { λ r. ⌜ now (b .exit) ≡ lentAfter (sipFace (rows (now (px .entry)) (now (py .entry)) (now (xi .entry)) (now (eta .entry))) (now (snr .entry)) (now (wcs .entry)) order
+        (length (now (a .entry))) (length (now (b .entry))) (length (now (sums .entry))))
+        (sipB (field (rows (now (px .entry)) (now (py .entry)) (now (xi .entry)) (now (eta .entry))) (now (snr .entry)) (wcsIn (now (wcs .entry)))) order) (now (b .entry)) ⌝ }
+    ensures rows { λ r. ⌜ now («rows_used» .exit) ≡ numberAfter (sipFace (rows (now (px .entry)) (now (py .entry)) (now (xi .entry)) (now (eta .entry))) (now (snr .entry)) (now (wcs .entry)) order
+        (length (now (a .entry))) (length (now (b .entry))) (length (now (sums .entry))))
+        (usedIn (sipTold (field (rows (now (px .entry)) (now (py .entry)) (now (xi .entry)) (now (eta .entry))) (now (snr .entry)) (wcsIn (now (wcs .entry)))) order
+        (length (now (a .entry))) (length (now (b .entry))) (length (now (sums .entry))))) (now («rows_used» .entry)) ⌝ }
+    ensures sums { λ r. ⌜ now (sums .exit) ≡ lentAfter (sipFace (rows (now (px .entry)) (now (py .entry)) (now (xi .entry)) (now (eta .entry))) (now (snr .entry)) (now (wcs .entry)) order
+        (length (now (a .entry))) (length (now (b .entry))) (length (now (sums .entry))))
+        (sumsIn (sipTold (field (rows (now (px .entry)) (now (py .entry)) (now (xi .entry)) (now (eta .entry))) (now (snr .entry)) (wcsIn (now (wcs .entry)))) order
+        (length (now (a .entry))) (length (now (b .entry))) (length (now (sums .entry))))) (now (sums .entry)) ⌝ }
+{
+    sip_face::fit_sip(px, py, xi, eta, snr, wcs, order, a, b, rows_used, sums)
 }

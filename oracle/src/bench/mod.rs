@@ -8,6 +8,7 @@ pub mod floats;
 pub mod matching;
 pub mod quad;
 pub mod run;
+pub mod sip;
 
 const ROUNDS: usize = 61;
 

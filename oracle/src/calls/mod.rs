@@ -9,8 +9,10 @@ mod floats;
 mod matching;
 mod quad;
 mod run;
+pub mod sip;
 
-pub const GROUPS: &[Group] = &[floats::GROUP, quad::GROUP, matching::GROUP, cd::GROUP, run::GROUP];
+pub const GROUPS: &[Group] =
+    &[floats::GROUP, quad::GROUP, matching::GROUP, cd::GROUP, run::GROUP, sip::GROUP];
 
 /// A call of Moorspindle's, its cases, and the two sources of its answers.
 pub struct Call {

@@ -7,6 +7,7 @@ pub mod matching;
 pub mod quad;
 mod rows;
 pub mod run;
+pub mod sip;
 
 /// The number of the first refusal, or what was asked for.
 type Tested<T> = Result<T, u32>;
@@ -15,6 +16,8 @@ const COUNT: u32 = 1;
 const LENGTHS: u32 = 2;
 const VALUE: u32 = 3;
 const PLACE: u32 = 4;
+const ORDER: u32 = 5;
+const ROWS: u32 = 6;
 const ROOM: u32 = 7;
 const DEGENERATE: u32 = 8;
 const FEW: u32 = 9;

@@ -1,0 +1,72 @@
+//! sip.rs. Each pointer comes from a Rust reference and goes with its length, and what is lent to
+//! be written overlaps nothing else.
+
+use super::matching::Rows;
+
+#[link(name = "moorspindle", kind = "static")]
+unsafe extern "C" {
+    fn moorspindle_fit_sip(
+        px: *const f64,
+        px_len: usize,
+        py: *const f64,
+        py_len: usize,
+        xi: *const f64,
+        xi_len: usize,
+        eta: *const f64,
+        eta_len: usize,
+        snr: *const f64,
+        snr_len: usize,
+        wcs: *const f64,
+        wcs_len: usize,
+        order: u32,
+        a: *mut f64,
+        a_len: usize,
+        b: *mut f64,
+        b_len: usize,
+        rows_used: *mut u64,
+        sums: *mut f64,
+        sums_len: usize,
+    ) -> u32;
+}
+
+/// What a fit is written into: the coefficients of both axes, the rows used, the three sums.
+#[derive(Clone)]
+pub struct Lent {
+    pub a: Vec<f64>,
+    pub b: Vec<f64>,
+    pub rows_used: u64,
+    pub sums: Vec<f64>,
+}
+
+pub fn fit_sip(
+    [px, py, xi, eta]: Rows,
+    snr: &[f64],
+    wcs: &[f64],
+    order: u32,
+    lent: &mut Lent,
+) -> u32 {
+    unsafe {
+        moorspindle_fit_sip(
+            px.as_ptr(),
+            px.len(),
+            py.as_ptr(),
+            py.len(),
+            xi.as_ptr(),
+            xi.len(),
+            eta.as_ptr(),
+            eta.len(),
+            snr.as_ptr(),
+            snr.len(),
+            wcs.as_ptr(),
+            wcs.len(),
+            order,
+            lent.a.as_mut_ptr(),
+            lent.a.len(),
+            lent.b.as_mut_ptr(),
+            lent.b.len(),
+            &mut lent.rows_used,
+            lent.sums.as_mut_ptr(),
+            lent.sums.len(),
+        )
+    }
+}
