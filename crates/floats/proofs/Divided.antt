@@ -1,8 +1,9 @@
 -- The second half of a root's digits, found by one division: at most one too many. Assumes nothing.
-use mathlib.Core.Path.{_≡_, sym, ap, _∙_, subst}
+use mathlib.Core.Path.{_≡_, refl, sym, ap, _∙_, subst}
 use Prim.Native.Nat.{ℕ, zero, suc, _+_, _-_, _*_, _/_, _%_, _^_, _≤_, _<_}
 use native.Mathlib.Nat.{add-mul, mul-comm, mul-assoc, mul-left-comm, mul-one, mul-zero, mul-suc, mul-le-mul, mul-le-mul-right, lt-of-mul-lt-mul-left, lt-of-not-le, suc-mul, mul-mul-mul-comm, mod-lt, div-add-mod', le-of-lt, le-of-suc-le-suc}
 use native.Mathlib.Omega.{arith}
+use Rattle.floats.specs.Steps.{Halfway}
 use Rattle.floats.proofs.Digits.{square, Digits, ended}
 
 -- r is the whole part of the root of n
@@ -84,33 +85,36 @@ upper-high m a p rest sum under b low = le-of-suc-le-suc (lt-of-not-le (λ (h : 
         let o : suc a * p * (suc a * p) ≡ (a * p + p) * (a * p + p) = ap (λ (x : ℕ). x * x) g in
         omega arith
 
--- ---- the root of m * 2^54, when 27 digits of it are found
-pub record Halfway (m rest q : ℕ) : Type 0 where
-  pub upper : ℕ
-  pub digits : q ≡ upper * 2 ^ 27
-  pub high : 2 ^ 26 ≤ upper
-  pub room : q < 2 ^ 54
-  pub sum : q * q + rest * 2 ^ 27 ≡ m * 2 ^ 54
-  pub under : rest < 2 * q + 2 ^ 27
-
-pub halfway : {m bit rest q : ℕ} → Digits (m * 2 ^ 54) (2 ^ 54) (2 ^ 27) bit rest q → bit ≤ 2 ^ 27 → 2 ^ 52 ≤ m → Halfway m rest q
-halfway {m} {bit} {rest} {q} d h low = go bit (ended d h) (d .digits) (d .sum) (d .under) (d .room)
+-- ---- when 27 digits of a root are found
+-- by the loop
+pub halfway : (m : ℕ) {bit rest q : ℕ} → Digits (m * 2 ^ 54) (2 ^ 54) (2 ^ 27) bit rest q → bit ≤ 2 ^ 27 → 2 ^ 52 ≤ m → Halfway q rest
+halfway m {bit} {rest} {q} d h low = go bit (ended d h) (d .digits) (d .sum) (d .under) (d .room)
   where
-    go : (b : ℕ) → b ≡ 2 ^ 27 → q ≡ d .upper * b → q * q + rest * b ≡ m * 2 ^ 54 → rest < 2 * q + b → q + b ≤ 2 ^ 54 → Halfway m rest q
+    go : (b : ℕ) → b ≡ 2 ^ 27 → q ≡ d .upper * b → q * q + rest * b ≡ m * 2 ^ 54 → rest < 2 * q + b → q + b ≤ 2 ^ 54 → Halfway q rest
     go b e f s u r =
         let digits : q ≡ d .upper * 2 ^ 27 = f ∙ ap (λ (x : ℕ). d .upper * x) e in
         let sum : q * q + rest * 2 ^ 27 ≡ m * 2 ^ 54 = ap (λ (x : ℕ). q * q + rest * x) (sym e) ∙ s in
-        let under : rest < 2 * q + 2 ^ 27 = omega arith in
         record {
           upper = d .upper;
           digits = digits;
           high = upper-high m (d .upper) (2 ^ 27) rest (ap (λ (x : ℕ). x * x + rest * 2 ^ 27) (sym digits) ∙ sum) (omega arith) (2 ^ 26) low;
           room = omega arith;
-          sum = sum;
-          under = under;
+          under = omega arith;
         }
 
-module _ {m rest q : ℕ} (h : Halfway m rest q) where
+pub loop-sum : (m : ℕ) {bit rest q : ℕ} → Digits (m * 2 ^ 54) (2 ^ 54) (2 ^ 27) bit rest q → bit ≤ 2 ^ 27 → q * q + rest * 2 ^ 27 ≡ m * 2 ^ 54
+loop-sum m {rest = rest} {q = q} d h = ap (λ (x : ℕ). q * q + rest * x) (sym (ended d h)) ∙ d .sum
+
+-- by a guess whose square is checked
+pub guessed : (a u : ℕ) → 2 ^ 26 ≤ a → a < 2 ^ 27 → u ≤ 2 * a → Halfway (a * 2 ^ 27) (u * 2 ^ 27)
+guessed a u low high rest = record { upper = a; digits = refl; high = low; room = omega arith; under = omega arith }
+
+pub guess-sum : (m a u : ℕ) → a * a + u ≡ m → a * 2 ^ 27 * (a * 2 ^ 27) + u * 2 ^ 27 * 2 ^ 27 ≡ m * 2 ^ 54
+guess-sum m a u e =
+    let s : a * 2 ^ 27 * (a * 2 ^ 27) ≡ a * a * 2 ^ 54 = mul-mul-mul-comm a (2 ^ 27) a (2 ^ 27) in
+    omega arith
+
+module _ {q rest : ℕ} (h : Halfway q rest) where
   divisor : q / 2 ^ 26 ≡ 2 * h .upper
   divisor = let e = h .digits in omega arith
 
@@ -133,21 +137,16 @@ module _ {m rest q : ℕ} (h : Halfway m rest q) where
   below : rest < 2 * (h .upper * 2 ^ 27) + 2 ^ 27
   below = omega (arith, h .under, h .digits)
 
-  number : h .upper * 2 ^ 27 * (h .upper * 2 ^ 27) + rest * 2 ^ 27 ≡ m * 2 ^ 54
-  number = ap (λ (x : ℕ). x * x + rest * 2 ^ 27) (sym (h .digits)) ∙ h .sum
-
   pub taken-few : rest / (q / 2 ^ 26) ≤ 2 ^ 27
   taken-few = few (h .upper) (2 ^ 27) rest _ _ split left-below fit below
 
-  pub not-over : rest / (q / 2 ^ 26) * (rest / (q / 2 ^ 26)) ≤ rest % (q / 2 ^ 26) * 2 ^ 27 → IsWhole (m * 2 ^ 54) (q + rest / (q / 2 ^ 26))
+  pub not-over : rest / (q / 2 ^ 26) * (rest / (q / 2 ^ 26)) ≤ rest % (q / 2 ^ 26) * 2 ^ 27 → IsWhole (q * q + rest * 2 ^ 27) (q + rest / (q / 2 ^ 26))
   not-over c =
-      subst (λ (x : ℕ). IsWhole (m * 2 ^ 54) (x + rest / (q / 2 ^ 26))) (sym (h .digits))
-      (subst (λ (n : ℕ). IsWhole n (h .upper * 2 ^ 27 + rest / (q / 2 ^ 26))) number (covered (h .upper) (2 ^ 27) rest _ _ split left-below fit below c))
+      subst (λ (x : ℕ). IsWhole (x * x + rest * 2 ^ 27) (x + rest / (q / 2 ^ 26))) (sym (h .digits)) (covered (h .upper) (2 ^ 27) rest _ _ split left-below fit below c)
 
-  pub over : rest % (q / 2 ^ 26) * 2 ^ 27 < rest / (q / 2 ^ 26) * (rest / (q / 2 ^ 26)) → IsWhole (m * 2 ^ 54) (q + rest / (q / 2 ^ 26) - 1)
+  pub over : rest % (q / 2 ^ 26) * 2 ^ 27 < rest / (q / 2 ^ 26) * (rest / (q / 2 ^ 26)) → IsWhole (q * q + rest * 2 ^ 27) (q + rest / (q / 2 ^ 26) - 1)
   over c =
-      subst (λ (x : ℕ). IsWhole (m * 2 ^ 54) (x + rest / (q / 2 ^ 26) - 1)) (sym (h .digits))
-      (subst (λ (n : ℕ). IsWhole n (h .upper * 2 ^ 27 + rest / (q / 2 ^ 26) - 1)) number (uncovered (h .upper) (2 ^ 27) rest _ _ split left-below fit below c))
+      subst (λ (x : ℕ). IsWhole (x * x + rest * 2 ^ 27) (x + rest / (q / 2 ^ 26) - 1)) (sym (h .digits)) (uncovered (h .upper) (2 ^ 27) rest _ _ split left-below fit below c)
 
   pub square-small : rest / (q / 2 ^ 26) * (rest / (q / 2 ^ 26)) ≤ 2 ^ 54
   square-small = mul-le-mul taken-few taken-few

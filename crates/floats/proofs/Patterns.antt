@@ -1,14 +1,15 @@
 -- What the pattern of a finite f64 stands for, in units of 2 ^ -1074; and two finite f64 of one sign and one number of units are the same. Assumes nothing.
 use mathlib.Core.Path.{_≡_, refl, sym, ap, _∙_, subst}
 use mathlib.Core.Bool.{Bool, true, false, not, cond}
-use Prim.Native.Nat.{ℕ, zero, suc, _+_, _-_, _*_, _/_, _%_, _^_, _<_}
+use Prim.Native.Nat.{ℕ, zero, suc, _+_, _-_, _*_, _/_, _%_, _^_, _≤_, _<_}
 use native.Mathlib.Nat.{mul-one, mul-div-cancel, mod-eq-of-lt, not-le-of-lt}
 use native.Mathlib.Omega.{arith}
+use borrow.Author.Tests.{le-ltb}
 use lib.IntN.{ℤ}
-use lib.Dec.{T, leb, eqb, eqb→eq, nleb→lt, not-T, leb→le}
+use lib.Dec.{T, leb, ltb, eqb, eqb→eq, nleb→lt, not-T, leb→le}
 use lib.Ieee.{Float, nan, inf, fin, binary64, up, down, size, odd, fits, isNan, ofFields, ofBits, nanBits, toBits}
 use lib.Ieee.Fits.{eq→eqb, down-pos}
-use lib.Ieee.Bits.{is-false, cond-no, ofBits-toBits, nanBits-is}
+use lib.Ieee.Bits.{is-false, cond-no, ofBits-toBits, nanBits-is, nanBits-above}
 use lib.Ieee.Exact.{HasValue, odd-sign}
 use lib.Ieee.Scale.{finite}
 use lib.Ieee.Positive.{positive, positive-finite}
@@ -180,3 +181,9 @@ finite-no-nan (fin s m e) p = tt
 
 pub no-nan-bits : (b : ℕ) → T (finite (ofBits binary64 b)) → T (not (nanBits binary64 b))
 no-nan-bits b p = subst (λ (k : Bool). T (not k)) (sym (nanBits-is binary64 b)) (finite-no-nan (ofBits binary64 b) p)
+
+-- no pattern up to the infinity's is that of a NaN
+pub no-nan-up-to : (b : ℕ) → b ≤ 0x7ff0_0000_0000_0000 → T (not (nanBits binary64 b))
+no-nan-up-to b h =
+    let small : b < 2 ^ 63 = omega arith in
+    subst (λ (k : Bool). T (not k)) (sym (nanBits-above binary64 b ∙ ap (ltb 0x7ff0_0000_0000_0000) (mod-eq-of-lt small) ∙ le-ltb 0x7ff0_0000_0000_0000 b h)) tt

@@ -8,7 +8,7 @@ ghost use Rattle.floats.specs.Magnitude.{magnitudeOf};
 ghost use Rattle.floats.specs.Floor.{ceilDiv, floorOf};
 ghost use Rattle.floats.specs.Power.{powerOf};
 ghost use Rattle.floats.specs.Root.{rootOf, IsRoot};
-ghost use Rattle.floats.specs.Steps.{unitsAt, Scaled53, Rooted};
+ghost use Rattle.floats.specs.Steps.{Halfway, unitsAt, Scaled53, Rooted};
 
 // x without its sign: the sign's bit is cleared. A NaN has no bits to rely on, and is its own.
 pub fn magnitude(x: f64) -> f64
@@ -60,7 +60,22 @@ pub fn power(u: f64, p: u32) -> f64
     r
 }
 
-// The whole part of the root of m * 2^54: 27 binary digits one by one, the other 27 by a division.
+// The other 27 digits of a root, by a division.
+fn second_half(q: u64, rest: u64) -> u64
+    requires { ⌜ Halfway q rest ⌝ }
+    ensures { λ r. ⌜ (r * r ≤ q * q + rest * 2 ^ 27) × (q * q + rest * 2 ^ 27 < (r + 1) * (r + 1)) ⌝ }
+{
+    // (q + t)^2 is q^2 + 2qt and t^2 more, which is one digit too many where it is not covered
+    let d = q / 0x400_0000;
+    let t = rest / d;
+    if rest % d * 0x800_0000 < t * t {
+        q + t - 1
+    } else {
+        q + t
+    }
+}
+
+// The whole part of the root of m * 2^54: 27 binary digits one by one, and then the other half.
 fn root_digits(m: u64) -> u64
     requires { ⌜ (2 ^ 52 ≤ m) × (m < 2 ^ 54) ⌝ }
     ensures { λ r. ⌜ (r * r ≤ m * 2 ^ 54) × (m * 2 ^ 54 < (r + 1) * (r + 1)) ⌝ }
@@ -78,14 +93,59 @@ fn root_digits(m: u64) -> u64
             q += bit;
         }
     }
-    // (q + t)^2 is q^2 + 2qt and t^2 more, which is one digit too many where it is not covered
-    let d = q / 0x400_0000;
-    let t = rest / d;
-    if rest % d * 0x800_0000 < t * t {
-        q + t - 1
-    } else {
-        q + t
+    second_half(q, rest)
+}
+
+// A guess of the first 27 digits of the root of the f64 with the pattern `bits`, which is below 4, by
+// three steps of Newton's for 1 / root. What it gives is checked, so that any number would do.
+fn guess(bits: u64) -> u64
+    requires { ⌜ bits < 0x4010_0000_0000_0000 ⌝ }
+    ensures { λ r. ⌜ r < 2 ^ 27 ⌝ }
+{
+    let x = f64::from_bits(bits);
+    let half = 0.5 * x;
+    let y0 = f64::from_bits(0x5fe6_eb50_c7b5_37a9 - bits / 2);
+    let y1 = y0 * (1.5 - half * y0 * y0);
+    let y2 = y1 * (1.5 - half * y1 * y1);
+    let y3 = y2 * (1.5 - half * y2 * y2);
+    let z = x * y3 * 67108864.0 + 4503599627370496.0;
+    if z == z {
+        return f64::to_bits(z) % 0x800_0000;
     }
+    0
+}
+
+// A guess, or one less where its square is above m.
+fn lowered(g: u64, m: u64) -> u64
+    requires { ⌜ g < 2 ^ 27 ⌝ }
+    ensures { λ r. ⌜ r < 2 ^ 27 ⌝ }
+{
+    if g > 0 {
+        if m < g * g {
+            return g - 1;
+        }
+    }
+    g
+}
+
+// The same as the digits one by one give: by a guess, where it is right. The pattern is that of m * 2^-52.
+fn root_whole(m: u64, bits: u64) -> u64
+    requires { ⌜ (2 ^ 52 ≤ m) × (m < 2 ^ 54) ⌝ ∗ ⌜ bits < 0x4010_0000_0000_0000 ⌝ }
+    ensures { λ r. ⌜ (r * r ≤ m * 2 ^ 54) × (m * 2 ^ 54 < (r + 1) * (r + 1)) ⌝ }
+{
+    let a = lowered(guess(bits), m);
+    let s = a * a;
+    if a < 0x400_0000 {
+        return root_digits(m);
+    }
+    if m < s {
+        return root_digits(m);
+    }
+    let u = m - s;
+    if u > 2 * a {
+        return root_digits(m);
+    }
+    second_half(a * 0x800_0000, u * 0x800_0000)
 }
 
 // A number m * 2^e of units of 2^-1126.
@@ -127,7 +187,7 @@ fn root_bits(bits: u64) -> u64
     let e = s.e;
     // an even exponent, whose half is the root's
     let n = if e % 2 == 0 { m } else { 2 * m };
-    let q = root_digits(n);
+    let q = root_whole(n, m + (1022 + e % 2) * 0x10_0000_0000_0000);
     (e / 2 + 485) * 0x10_0000_0000_0000 + (q + 1) / 2
 }
 

@@ -1,11 +1,11 @@
 -- `cd_near::is_within` meets its contract: the root is the definition's. Assumes nothing.
-use Rattle.cd_near.proofs.Ends.{no-nan}
+use Rattle.floats.proofs.Patterns.{no-nan-up-to}
 use borrow.Author.Needs.{needs}
 use Rattle.cd_near.proofs.is_within.Statement.{statement}
 use Rattle.cd_near.proofs.is_within.Tie as tie
 
 float-from-bits-root : tie.Need-float-from-bits-root
-float-from-bits-root c = no-nan (c .args .bits) (c .pre)
+float-from-bits-root c = no-nan-up-to (c .args .bits) (c .pre)
 
 root-requires : tie.Need-root-requires
 root-requires c κs = search needs

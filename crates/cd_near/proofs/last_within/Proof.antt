@@ -1,7 +1,7 @@
 -- `cd_near::last_within` meets its contract: one end stays within the limit and the other past it until nothing is between them. Assumes nothing.
 use Rattle.cd_near.specs.Reach.{infinity, isWithin}
 use Rattle.floats.proofs.Ranks.{next-pattern}
-use Rattle.cd_near.proofs.Ends.{no-nan}
+use Rattle.floats.proofs.Patterns.{no-nan-up-to}
 use mathlib.Core.Path.{_≡_, _∙_, sym, ap}
 use mathlib.Core.Bool.{true, false}
 use Prim.Native.Nat.{ℕ, _+_, _-_, _≤_, _<_}
@@ -44,7 +44,7 @@ loop-again-2 : tie.Need-loop-again-2 Inv-loop μ-loop
 loop-again-2 c = (omega arith, omega arith, search needs, sym (c .before .is-within .ensures) ∙ c .if1 .left)
 
 float-from-bits-result : tie.Need-float-from-bits-result Inv-loop μ-loop
-float-from-bits-result c = no-nan _ (omega arith)
+float-from-bits-result c = no-nan-up-to _ (omega arith)
 
 returns : tie.Need-returns Inv-loop μ-loop
 returns c =

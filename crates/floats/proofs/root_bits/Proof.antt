@@ -22,8 +22,17 @@ scaled-requires c κs = search needs
 mul-n : tie.Need-mul-n
 mul-n c = search needs
 
-root-digits-requires : tie.Need-root-digits-requires
-root-digits-requires c κs = (omega (arith, evened c .low), omega (arith, evened c .high))
+add-root-whole : tie.Need-add-root-whole
+add-root-whole c = search needs
+
+mul-root-whole : tie.Need-mul-root-whole
+mul-root-whole c = search needs
+
+add-root-whole-2 : tie.Need-add-root-whole-2
+add-root-whole-2 c = omega (arith, c .before .scaled .ensures .high)
+
+root-whole-requires : tie.Need-root-whole-requires
+root-whole-requires c κs = ((omega (arith, evened c .low), omega (arith, evened c .high)), omega (arith, c .before .scaled .ensures .high))
 
 add-result : tie.Need-add-result
 add-result c = search needs
@@ -32,13 +41,13 @@ mul-result : tie.Need-mul-result
 mul-result c = search needs
 
 add-result-2 : tie.Need-add-result-2
-add-result-2 c = omega (arith, q-high (evened (c .before)) (c .root-digits .result) (c .root-digits .ensures .0) (c .root-digits .ensures .1))
+add-result-2 c = omega (arith, q-high (evened (c .before)) (c .root-whole .result) (c .root-whole .ensures .0) (c .root-whole .ensures .1))
 
 add-result-3 : tie.Need-add-result-3
 add-result-3 c = search needs
 
 returns : tie.Need-returns
-returns c = (_, _, rooted (c .before .before .scaled .ensures) (evened (c .before)) (c .root-digits .result) (c .root-digits .ensures .0) (c .root-digits .ensures .1))
+returns c = (_, _, rooted (c .before .before .scaled .ensures) (evened (c .before)) (c .root-whole .result) (c .root-whole .ensures .0) (c .root-whole .ensures .1))
 
 pub root-bits-spec : {M : Type 1} → statement M
-root-bits-spec = tie.close (tie.spec scaled-requires mul-n root-digits-requires add-result mul-result add-result-2 add-result-3 returns)
+root-bits-spec = tie.close (tie.spec scaled-requires mul-n add-root-whole mul-root-whole add-root-whole-2 root-whole-requires add-result mul-result add-result-2 add-result-3 returns)
