@@ -56,7 +56,7 @@ abbrev bent : Wcs → List Float → Field
 bent w snr =
     field (rows (f 1 ∷ m 1 ∷ f 1 ∷ m 1 ∷ f 1 ∷ m 1 ∷ []) (f 0 ∷ f 0 ∷ f 1 ∷ f 1 ∷ m 1 ∷ m 1 ∷ []) (half ∷ past ∷ half ∷ past ∷ half ∷ past ∷ []) (f 0 ∷ f 0 ∷ f 1 ∷ f 1 ∷ m 1 ∷ m 1 ∷ [])) snr w
 
--- the record of document 01: six rows, a_2_0 is 0.5 and all others are dropped, and the errors go from 0.5 to 0.0
+-- the record of the scope: six rows, a_2_0 is 0.5 and all others are dropped, and the errors go from 0.5 to 0.0
 whole : sipAnswer (bent unit (six (f 1))) 2 3 3 ≡ fit.Fitted (record { «rows_used» = 6; «linear_rms» = half; rms = f 0; wrms = f 0 })
 unfolding fieldAnswer orderAnswer positionRows every isWcs isCd countTo roundsFrom solveOf ones filled keptOf entryTo offsetOf determinantOf termAt powerOf pivotRow eliminateFrom rowLess unknownsTo errorOf valueTo weighedTo rejectedTo clipOf linearTo totalsTo sipOf magnitudeOf rootOf ofBits ofInt add sub mul div neg lt le eq
 whole = refl

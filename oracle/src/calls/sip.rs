@@ -257,7 +257,9 @@ fn edge_cases(every: usize) -> Vec<Case> {
             cases.push(Field { snr, ..field.clone() }.fitting(2));
         }
         for bad in BAD_SNR {
-            cases.push(Field { snr: vec![1.0, 1.0, 1.0, 1.0, 1.0, bad], ..field.clone() }.fitting(3));
+            cases.push(
+                Field { snr: vec![1.0, 1.0, 1.0, 1.0, 1.0, bad], ..field.clone() }.fitting(3),
+            );
         }
         for wcs in [vec![], vec![1.0; 5], vec![1.0; 7]] {
             cases.push(Field { wcs: wcs.clone(), ..field.clone() }.fitting(2));
@@ -360,10 +362,11 @@ fn distance_of_untouched(random: &mut Random, order: u32) -> String {
         same += usize::from(pairs().all(|(x, y)| bits(*x) == bits(*y)));
         let apart = |(x, y): (&f64, &f64)| (x - y).abs() / x.abs().max(y.abs()).max(1e-300);
         greatest = pairs().map(apart).fold(greatest, f64::max);
-        rms = rms.max(apart((&untouched.sums[1], &own.sums[1])));
+        rms = rms.max((untouched.sums[1] - own.sums[1]).abs());
     }
     format!(
         "fit_sip of order {order}: the untouched Rust has the same coefficients in {same} of {FIELDS} \
-         fields, other rows in {other}; they are at most {greatest:.1e} apart, the rms {rms:.1e}"
+         fields, other rows in {other}; they are at most {greatest:.1e} of their size apart, the rms \
+         {rms:.1e} pixels"
     )
 }

@@ -15,11 +15,6 @@ const LEAST: usize = 6;
 /// A fit of the Rust's, edited or not.
 pub type Fitted = fn(&[Row], &[f64], [f64; 6], u32) -> Fit<Sip>;
 
-/// The Rust with powers as repeated products and terms summed in their order.
-pub fn fit_sip(rows: Rows, snr: &[f64], wcs: &[f64], order: u32, lent: &mut Lent) -> u32 {
-    fit_sip_by(fit_wcs::fit_sip_in_order, rows, snr, wcs, order, lent)
-}
-
 pub fn fit_sip_by(
     fitted: Fitted,
     rows: Rows,
