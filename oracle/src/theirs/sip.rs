@@ -1,6 +1,6 @@
 //! sip.rs behind Moorspindle's signature. This call has an order of refusals of its own.
 
-use celestial_solver::fit_wcs::{self, Sip};
+use celestial_solver::fit_wcs::Sip;
 use celestial_solver::{Fit, Row};
 
 use super::rows::{few_and_even, rows_of};
