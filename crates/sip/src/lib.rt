@@ -1,5 +1,4 @@
 // `fit_sip`: the SIP polynomials of rows under a WCS.
-use cd_plate::Cd;
 use cd_residuals::Wcs;
 use domain::Answer;
 use domain::Refusal;
@@ -10,10 +9,9 @@ ghost use lib.ListN.{length, replicate};
 ghost use Rattle.domain.specs.declared.Answer.the-variants as answer;
 ghost use Rattle.domain.specs.Answers.{lentAfter};
 ghost use Rattle.rows.specs.Rows.{rows};
-ghost use Rattle.cd_residuals.specs.Residuals.{isWcs};
 ghost use Rattle.sip_sums.specs.Field.{field};
 ghost use Rattle.sip_rounds.specs.Rounds.{roundsOf};
-ghost use Rattle.sip.specs.Call.{fieldAnswer, orderAnswer, testsAnswer, sipAfter, coefficientsA, coefficientsB, answerOf, sipNumber, sipAnswer, sipA, sipB};
+ghost use Rattle.sip.specs.Call.{sipAfter, coefficientsA, coefficientsB, answerOf, sipNumber, sipAnswer, sipA, sipB};
 
 // The most rows, and the most terms.
 const MOST_ROWS: usize = 100;
@@ -35,71 +33,6 @@ impl SipFit {
             SipFit::Fitted(_) => 0,
             SipFit::Refused(why) => why.number(),
         }
-    }
-}
-
-// Whether the reference pixel is a position, and each factor finite.
-fn is_taken(wcs: Wcs) -> bool
-    ensures { λ r. ⌜ r ≡ isWcs wcs ⌝ }
-{
-    let pixel = domain::is_position(wcs.crpix1) & domain::is_position(wcs.crpix2);
-    pixel & sip_sums::plate_of(wcs).is_finite()
-}
-
-// The tests of the lists and of the WCS, in their order.
-fn check_field(px: &[f64], py: &[f64], xi: &[f64], eta: &[f64], snr: &[f64], wcs: Wcs) -> Answer
-    ensures { λ r. ⌜ r ≡ fieldAnswer (field (rows (now (px .entry)) (now (py .entry)) (now (xi .entry)) (now (eta .entry))) (now (snr .entry)) wcs) ⌝ }
-{
-    if !(rows::few_rows(px, py, xi, eta) & (snr.len() <= MOST_ROWS)) {
-        return Answer::Refused(Refusal::Count);
-    }
-    if !(rows::even_rows(px, py, xi, eta) & (snr.len() == px.len())) {
-        return Answer::Refused(Refusal::Lengths);
-    }
-    let numbers = rows::position_rows(px, py, xi, eta) & domain::all_snrs(snr);
-    if !(numbers & is_taken(wcs)) {
-        return Answer::Refused(Refusal::Value);
-    }
-    Answer::Done
-}
-
-// The tests that follow, of so many rows and places: the order, the rows, the room, the given factors.
-fn check_order(count: usize, wcs: Wcs, order: u32, a: usize, b: usize) -> Answer
-    ensures { λ r. ⌜ r ≡ orderAnswer count wcs order a b ⌝ }
-{
-    if (order < Sip::LEAST_ORDER) | (Sip::MOST_ORDER < order) {
-        return Answer::Refused(Refusal::Order);
-    }
-    let n = sip_terms::term_count(order);
-    if (count < Sip::LEAST_ROWS) | (count < n) {
-        return Answer::Refused(Refusal::Rows);
-    }
-    if (a < n) | (b < n) {
-        return Answer::Refused(Refusal::Room);
-    }
-    if floats::magnitude(sip_sums::plate_of(wcs).determinant()) > Cd::LEAST_DETERMINANT {
-        return Answer::Done;
-    }
-    Answer::Refused(Refusal::Degenerate)
-}
-
-// All tests before the fit, in their order.
-fn check_call(
-    px: &[f64],
-    py: &[f64],
-    xi: &[f64],
-    eta: &[f64],
-    snr: &[f64],
-    wcs: Wcs,
-    order: u32,
-    a: usize,
-    b: usize,
-) -> Answer
-    ensures { λ r. ⌜ r ≡ testsAnswer (field (rows (now (px .entry)) (now (py .entry)) (now (xi .entry)) (now (eta .entry))) (now (snr .entry)) wcs) order a b ⌝ }
-{
-    match check_field(px, py, xi, eta, snr, wcs) {
-        Answer::Refused(why) => Answer::Refused(why),
-        Answer::Done => check_order(px.len(), wcs, order, a, b),
     }
 }
 
@@ -260,7 +193,7 @@ pub fn fit_sip(
     ensures b { λ r. ⌜ now (b .exit) ≡ lentAfter (answerOf r)
         (sipB (field (rows (now (px .entry)) (now (py .entry)) (now (xi .entry)) (now (eta .entry))) (now (snr .entry)) wcs) order) (now (b .entry)) ⌝ }
 {
-    match check_call(px, py, xi, eta, snr, wcs, order, a.len(), b.len()) {
+    match sip_tests::check_call(px, py, xi, eta, snr, wcs, order, a.len(), b.len()) {
         Answer::Refused(why) => SipFit::Refused(why),
         Answer::Done => {
             let n = sip_terms::term_count(order);

@@ -9,7 +9,8 @@ use Rattle.rows.specs.Rows.{Rows}
 use Rattle.cd_face.specs.Face.{wcsIn, ofSix}
 use Rattle.sip_terms.specs.declared.Sip.{Sip}
 use Rattle.sip_sums.specs.Field.{Field, field}
-use Rattle.sip.specs.Call.{fewField, sipAnswer, answerOf}
+use Rattle.sip_tests.specs.Tests.{fewField}
+use Rattle.sip.specs.Call.{sipAnswer, answerOf}
 use Rattle.sip.specs.declared.SipFit.{SipFit}
 use Rattle.sip.specs.declared.SipFit.the-variants as fit
 

@@ -1,7 +1,6 @@
 -- `sip::fit_checked` meets its contract: the lists that are lent are as long as the terms. Assumes nothing.
 use lib.Seq.{length-take-le}
 use mathlib.Core.Path.{sym}
-use Prim.Native.Nat.{_-_}
 use borrow.Author.Needs.{needs}
 use Rattle.sip.proofs.fit_checked.Statement.{statement}
 use Rattle.sip.proofs.fit_checked.Tie as tie

@@ -1,14 +1,13 @@
 -- `sip::fit_into` meets its contract: a fit that is done is copied, and any other leaves the lists. Assumes nothing.
 use Rattle.domain.specs.declared.Answer.the-variants as answer
+use native.Mathlib.Omega.{arith}
 use Rattle.sip.proofs.Ending.{copied}
 use Rattle.sip.specs.Call.{coefficientsA, coefficientsB, answerOf}
 use Rattle.sip_rounds.specs.Rounds.{roundsOf}
 use Rattle.sip_sums.specs.Field.{field}
 use Rattle.rows.specs.Rows.{rows}
 use lib.Seq.{length-take-le}
-use denote.Ref.{now}
 use mathlib.Core.Path.{_≡_, _∙_, sym}
-use Prim.Native.Nat.{_-_}
 use borrow.Author.Needs.{needs}
 use Rattle.sip.proofs.fit_into.Statement.{statement}
 use Rattle.sip.proofs.fit_into.Tie as tie
@@ -29,7 +28,7 @@ slice-aggregate-copy-row : tie.Need-slice-aggregate-copy-row
 slice-aggregate-copy-row c = let s = c .before .before .before .before .before .before .before .before .before .before .before .before .before .before .before .before .before .before .before .before in sym (length-take-le _ _ (s .pre .1 .1 .1 .1 .1 .1 .1 .1 .0))
 
 copy-row-requires : tie.Need-copy-row-requires
-copy-row-requires c κs = let s = c .before .before .before .before .before .before .before .before .before .before .before .before .before .before .before .before .before .before .before .before .before in length-take-le _ _ (s .pre .1 .1 .1 .1 .1 .1 .1 .1 .0) ∙ sym (c .before .before .before .before .before .before .before .before .before .fit-terms .kept .1 .1 .1 .1 .1 .1 .1 .0 ∙ s .pre .1 .1 .1 .1 .1 .1 .0)
+copy-row-requires c κs = let s = c .before .before .before .before .before .before .before .before .before .before .before .before .before .before .before .before .before .before .before .before .before in omega (arith, length-take-le (s .args .n) (s .args .a .now) (s .pre .1 .1 .1 .1 .1 .1 .1 .1 .0), c .before .before .before .before .before .before .before .before .before .fit-terms .kept .1 .1 .1 .1 .1 .1 .1 .0 ∙ s .pre .1 .1 .1 .1 .1 .1 .0, c .before .before .before .before .before .before .before .before .before .fit-terms .kept .1 .1 .1 .1 .1 .1 .1 .1 .0 ∙ s .pre .1 .1 .1 .1 .1 .1 .1 .0)
 
 slice-relend-prefix-copy-row-2 : tie.Need-slice-relend-prefix-copy-row-2
 slice-relend-prefix-copy-row-2 c = let s = c .before .before .before .before .before .before .before .before .before .before .before .before .before .before .before .before .before .before .before .before .before .before .before .before in s .pre .1 .1 .1 .1 .1 .1 .1 .1 .1
@@ -38,7 +37,7 @@ slice-aggregate-copy-row-2 : tie.Need-slice-aggregate-copy-row-2
 slice-aggregate-copy-row-2 c = let s = c .before .before .before .before .before .before .before .before .before .before .before .before .before .before .before .before .before .before .before .before .before .before .before .before .before in sym (length-take-le _ _ (s .pre .1 .1 .1 .1 .1 .1 .1 .1 .1))
 
 copy-row-requires-2 : tie.Need-copy-row-requires-2
-copy-row-requires-2 c κs = let s = c .before .before .before .before .before .before .before .before .before .before .before .before .before .before .before .before .before .before .before .before .before .before .before .before .before .before in length-take-le _ _ (s .pre .1 .1 .1 .1 .1 .1 .1 .1 .1) ∙ sym (c .before .before .before .before .before .before .before .before .before .before .before .before .before .before .fit-terms .kept .1 .1 .1 .1 .1 .1 .1 .1 .0 ∙ s .pre .1 .1 .1 .1 .1 .1 .1 .0)
+copy-row-requires-2 c κs = let s = c .before .before .before .before .before .before .before .before .before .before .before .before .before .before .before .before .before .before .before .before .before .before .before .before .before .before in omega (arith, length-take-le (s .args .n) (s .args .b .now) (s .pre .1 .1 .1 .1 .1 .1 .1 .1 .1), c .before .before .before .before .before .before .before .before .before .before .before .before .before .before .fit-terms .kept .1 .1 .1 .1 .1 .1 .1 .0 ∙ s .pre .1 .1 .1 .1 .1 .1 .0, c .before .before .before .before .before .before .before .before .before .before .before .before .before .before .fit-terms .kept .1 .1 .1 .1 .1 .1 .1 .1 .0 ∙ s .pre .1 .1 .1 .1 .1 .1 .1 .0)
 
 same-length : tie.Need-same-length
 same-length c = search needs

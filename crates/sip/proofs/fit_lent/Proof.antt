@@ -3,11 +3,9 @@ use Rattle.sip.proofs.Ending.{failed, done, done-a, done-b, refused-not
 use Rattle.sip_rounds.specs.Rounds.{roundsOf, endedAs}
 use Rattle.sip_sums.specs.Field.{field}
 use Rattle.rows.specs.Rows.{rows}
-use denote.Ref.{now}
 use lib.ListN.{length, length-replicate}
 use native.Mathlib.Omega.{arith}
 use mathlib.Core.Path.{_≡_, _∙_, sym}
-use Prim.Native.Nat.{_-_}
 use borrow.Author.Needs.{needs}
 use Rattle.sip.proofs.fit_lent.Statement.{statement}
 use Rattle.sip.proofs.fit_lent.Tie as tie

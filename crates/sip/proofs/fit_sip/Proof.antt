@@ -1,13 +1,11 @@
 -- `sip::fit_sip` meets its contract: the tests decide, then the fit. Assumes nothing.
-use Rattle.sip.proofs.Passed.{tested-field, tested-order}
+use Rattle.sip_tests.proofs.Passed.{tested-field, tested-order}
 use Rattle.sip_terms.proofs.Places.{few-terms}
 use Rattle.sip_sums.specs.Field.{field}
 use Rattle.rows.specs.Rows.{rows}
-use denote.Ref.{now}
 use lib.ListN.{length}
 use native.Mathlib.Omega.{arith}
 use mathlib.Core.Path.{_∙_, sym}
-use Prim.Native.Nat.{_-_}
 use borrow.Author.Needs.{needs}
 use Rattle.sip.proofs.fit_sip.Statement.{statement}
 use Rattle.sip.proofs.fit_sip.Tie as tie

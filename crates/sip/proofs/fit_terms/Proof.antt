@@ -1,10 +1,8 @@
 -- `sip::fit_terms` meets its contract: the lists that are lent are as long as the rows, and every row is on. Assumes nothing.
 use Rattle.sip_solve.proofs.Room.{take-replicate}
 use lib.Seq.{length-take-le}
-use denote.Ref.{now}
 use lib.ListN.{length}
 use mathlib.Core.Path.{sym}
-use Prim.Native.Nat.{_-_}
 use borrow.Author.Needs.{needs}
 use Rattle.sip.proofs.fit_terms.Statement.{statement}
 use Rattle.sip.proofs.fit_terms.Tie as tie

@@ -2,11 +2,9 @@
 use Rattle.sip_clip.specs.Clip.{rootAt}
 use Rattle.cd_plate.proofs.Filling.{filled-length}
 use Rattle.sip_clip.proofs.Rejecting.{clip-done, ones-few}
-use denote.Ref.{now}
 use lib.ListN.{length}
 use native.Mathlib.Omega.{arith}
 use mathlib.Core.Path.{_≡_, _∙_}
-use Prim.Native.Nat.{_-_}
 use borrow.Author.Needs.{needs}
 use Rattle.sip_clip.proofs.clip.Statement.{statement}
 use Rattle.sip_clip.proofs.clip.Tie as tie

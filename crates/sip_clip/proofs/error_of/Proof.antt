@@ -1,8 +1,6 @@
 -- `sip_clip::error_of` meets its contract: the powers that are read are those of the definition. Assumes nothing.
 use Rattle.sip_clip.proofs.Errors.{error-is}
-use denote.Ref.{now}
 use native.Mathlib.Omega.{arith}
-use Prim.Native.Nat.{_-_}
 use borrow.Author.Needs.{needs}
 use Rattle.sip_clip.proofs.error_of.Statement.{statement}
 use Rattle.sip_clip.proofs.error_of.Tie as tie

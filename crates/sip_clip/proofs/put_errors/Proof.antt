@@ -3,7 +3,6 @@ use borrow.Author.Needs.{needs}
 use Rattle.sip_clip.specs.Clip.{errorAt}
 use Rattle.cd_plate.proofs.Filling.{Front, start, again}
 use Rattle.rows.specs.Rows.{rows}
-use denote.Ref.{now}
 use lib.ListN.{length, drop-of-length-le}
 use native.Mathlib.Omega.{arith}
 use mathlib.Core.List.{append-nil}

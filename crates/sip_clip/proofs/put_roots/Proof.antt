@@ -2,7 +2,6 @@
 use borrow.Author.Needs.{needs}
 use Rattle.sip_clip.specs.Clip.{rootAt}
 use Rattle.cd_plate.proofs.Filling.{Front, start, again}
-use denote.Ref.{now}
 use lib.ListN.{length, drop-of-length-le}
 use native.Mathlib.Omega.{arith}
 use mathlib.Core.List.{append-nil}

@@ -7,7 +7,6 @@ use Rattle.sip_clip.specs.Steps.{pastIn, rejectedIn}
 use Rattle.sip_clip.specs.Clip.{rejectedTo, byteAt}
 use Rattle.sip_terms.proofs.Told.{front-at}
 use Rattle.cd_plate.proofs.Filling.{Front, start, again}
-use denote.Ref.{now}
 use lib.ListN.{length, getD, drop-of-length-le}
 use native.Mathlib.Omega.{arith}
 use native.Mathlib.Numerals.{add-one}

@@ -1,7 +1,6 @@
 -- `sip_clip::weigh` meets its contract: after k rows the sum is that of the first k. Assumes nothing.
 use borrow.Author.Needs.{needs}
 use Rattle.sip_clip.specs.Clip.{weighedTo}
-use denote.Ref.{now}
 use lib.ListN.{length}
 use native.Mathlib.Omega.{arith}
 use native.Mathlib.Numerals.{add-one}

@@ -2,10 +2,8 @@
 use Rattle.sip_face.proofs.Roomless.{roomless, number-told}
 use Rattle.sip_sums.specs.Field.{field}
 use Rattle.rows.specs.Rows.{rows}
-use denote.Ref.{now}
 use lib.ListN.{length}
 use mathlib.Core.Path.{_∙_}
-use Prim.Native.Nat.{_-_}
 use borrow.Author.Needs.{needs}
 use Rattle.sip_face.proofs.fit_roomless.Statement.{statement}
 use Rattle.sip_face.proofs.fit_roomless.Tie as tie

@@ -2,11 +2,9 @@
 use Rattle.sip_face.proofs.Roomless.{roomless}
 use Rattle.sip_sums.specs.Field.{field}
 use Rattle.rows.specs.Rows.{rows}
-use denote.Ref.{now}
 use borrow.Author.Tests.{eq-eqb, ne-eqb, lt-ltb, le-ltb}
 use lib.ListN.{length}
 use mathlib.Core.Path.{refl}
-use Prim.Native.Nat.{_-_}
 use borrow.Author.Needs.{needs}
 use Rattle.sip_face.proofs.fit_sip.Statement.{statement}
 use Rattle.sip_face.proofs.fit_sip.Tie as tie

@@ -1,6 +1,5 @@
 -- `sip_face::put_fit` meets its contract: a fit that is done is put, and any other leaves what is lent. Assumes nothing.
 use mathlib.Core.Path.{refl}
-use Prim.Native.Nat.{_-_}
 use borrow.Author.Needs.{needs}
 use Rattle.sip_face.proofs.put_fit.Statement.{statement}
 use Rattle.sip_face.proofs.put_fit.Tie as tie

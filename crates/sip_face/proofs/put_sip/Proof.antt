@@ -1,11 +1,9 @@
 -- `sip_face::put_sip` meets its contract: three stores from the front are what is written. Assumes nothing.
 use Rattle.sip_face.specs.Face.{sumsOf}
 use Rattle.domain.proofs.Lent.{front}
-use denote.Ref.{now}
 use lib.ListN.{length-set}
 use native.Mathlib.Omega.{arith}
 use mathlib.Core.Path.{refl}
-use Prim.Native.Nat.{_-_}
 use borrow.Author.Needs.{needs}
 use Rattle.sip_face.proofs.put_sip.Statement.{statement}
 use Rattle.sip_face.proofs.put_sip.Tie as tie

@@ -1,9 +1,7 @@
 -- `sip_rms::sip_of` meets its contract: the calls give what the definition names. Assumes nothing.
 use Rattle.sip_clip.proofs.Rejecting.{ones-few}
 use Rattle.sip_rms.specs.Rms.{sipOf}
-use denote.Ref.{now}
 use native.Mathlib.Omega.{arith}
-use Prim.Native.Nat.{_-_}
 use borrow.Author.Needs.{needs}
 use Rattle.sip_rms.proofs.sip_of.Statement.{statement}
 use Rattle.sip_rms.proofs.sip_of.Tie as tie

@@ -1,7 +1,6 @@
 -- `sip_rms::sum_errors` meets its contract: after k rows the sums are those of the first k. Assumes nothing.
 use borrow.Author.Needs.{needs}
 use Rattle.sip_rms.specs.Rms.{totalsTo}
-use denote.Ref.{now}
 use lib.ListN.{length}
 use native.Mathlib.Omega.{arith}
 use native.Mathlib.Numerals.{add-one}

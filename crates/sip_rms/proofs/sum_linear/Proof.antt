@@ -2,7 +2,6 @@
 use borrow.Author.Needs.{needs}
 use Rattle.sip_rms.specs.Rms.{linearTo}
 use Rattle.rows.specs.Rows.{rows}
-use denote.Ref.{now}
 use lib.ListN.{length}
 use native.Mathlib.Omega.{arith}
 use native.Mathlib.Numerals.{add-one}

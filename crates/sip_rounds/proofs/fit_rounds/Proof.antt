@@ -4,7 +4,6 @@ use Rattle.sip_rounds.proofs.Turns.{round-failed, round-ended, round-go
 use Rattle.sip_rounds.specs.Rounds.{roundsFrom}
 use Rattle.sip_sums.specs.Field.{field}
 use Rattle.rows.specs.Rows.{rows}
-use denote.Ref.{now}
 use lib.ListN.{length}
 use native.Mathlib.Omega.{arith}
 use mathlib.Core.Path.{_≡_, _∙_, sym}

@@ -1,7 +1,7 @@
 -- `sip_rounds::solve_errors` meets its contract: the solves decide; where they are done the errors are those of their coefficients. Assumes nothing.
 use native.Mathlib.Omega.{arith}
 use mathlib.Core.Path.{_≡_, _∙_}
-use Prim.Native.Nat.{_-_, ℕ}
+use Prim.Native.Nat.{ℕ}
 use borrow.Author.Needs.{needs}
 use Rattle.sip_rounds.proofs.solve_errors.Statement.{statement}
 use Rattle.sip_rounds.proofs.solve_errors.Tie as tie

@@ -4,7 +4,6 @@ use Rattle.sip_solve.specs.Solve.{keptAt}
 use Rattle.sip_terms.proofs.Told.{front-at}
 use Rattle.cd_plate.proofs.Filling.{Front, start, again}
 use lib.Ieee.{nan}
-use denote.Ref.{now}
 use lib.ListN.{length, drop-of-length-le}
 use native.Mathlib.Omega.{arith}
 use mathlib.Core.List.{append-nil}

@@ -1,5 +1,4 @@
 -- `sip_solve::put_coefficients` meets its contract: the unknowns, and then what is kept of them. Assumes nothing.
-use Prim.Native.Nat.{_-_}
 use borrow.Author.Needs.{needs}
 use Rattle.sip_solve.proofs.put_coefficients.Statement.{statement}
 use Rattle.sip_solve.proofs.put_coefficients.Tie as tie

@@ -3,11 +3,10 @@ use Rattle.sip_solve.proofs.Axes.{axes-solved, axes-stopped}
 use Rattle.sip_sums.specs.Field.{field}
 use Rattle.rows.specs.Rows.{rows}
 use Rattle.cd_plate.specs.Plate.{nothing}
-use denote.Ref.{now}
 use lib.ListN.{length, length-replicate}
 use native.Mathlib.Omega.{arith}
 use mathlib.Core.Path.{_≡_, _∙_, sym}
-use Prim.Native.Nat.{_+_, _-_, _*_}
+use Prim.Native.Nat.{_+_, _*_}
 use borrow.Author.Needs.{needs}
 use Rattle.sip_solve.proofs.solve_in.Statement.{statement}
 use Rattle.sip_solve.proofs.solve_in.Tie as tie

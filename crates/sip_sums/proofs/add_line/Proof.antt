@@ -7,7 +7,6 @@ use Rattle.elimination.proofs.Flat.{in-row}
 use Rattle.elimination.specs.Holds.{Holds}
 use Rattle.elimination.specs.Elimination.{cells}
 use lib.Seq.{length-take-le}
-use denote.Ref.{now}
 use lib.ListN.{length, drop, length-drop}
 use native.Mathlib.Omega.{arith}
 use mathlib.Core.Path.{_≡_, _∙_, refl, sym}

@@ -1,8 +1,6 @@
 -- `sip_sums::add_offset` meets its contract: a row that is on adds its line. Assumes nothing.
 use Rattle.sip_sums.proofs.Adding.{offset-added, offset-kept}
-use denote.Ref.{now}
 use borrow.Author.Tests.{not-true, not-false}
-use Prim.Native.Nat.{_-_}
 use borrow.Author.Needs.{needs}
 use Rattle.sip_sums.proofs.add_offset.Statement.{statement}
 use Rattle.sip_sums.proofs.add_offset.Tie as tie

@@ -3,7 +3,6 @@ use borrow.Author.Needs.{needs}
 use Rattle.elimination.proofs.Turns.{Front, front-none, front-next, front-more, front-all}
 use Rattle.cd_plate.specs.Plate.{_⊕_, _⊗_}
 use lib.Ieee.{Float, nan}
-use denote.Ref.{now}
 use lib.ListN.{length, length-set, getD}
 use native.Mathlib.Omega.{arith}
 use mathlib.Core.Path.{_≡_}

@@ -1,11 +1,9 @@
 -- `sip_sums::put_line` meets its contract: the basis is filled from the powers, and two numbers are stored behind it. Assumes nothing.
 use Rattle.sip_sums.proofs.Lines.{line-put}
 use lib.Seq.{length-take-le}
-use denote.Ref.{now}
 use lib.ListN.{length-set}
 use native.Mathlib.Omega.{arith}
 use mathlib.Core.Path.{_∙_, sym}
-use Prim.Native.Nat.{_-_}
 use borrow.Author.Needs.{needs}
 use Rattle.sip_sums.proofs.put_line.Statement.{statement}
 use Rattle.sip_sums.proofs.put_line.Tie as tie

@@ -6,7 +6,6 @@ use Rattle.sip_sums.specs.Steps.{bothOf}
 use Rattle.sip_sums.specs.Field.{field}
 use Rattle.elimination.specs.Holds.{Holds}
 use Rattle.rows.specs.Rows.{rows}
-use denote.Ref.{now}
 use lib.ListN.{length, length-replicate}
 use native.Mathlib.Omega.{arith}
 use mathlib.Core.Path.{_≡_, _∙_, refl}

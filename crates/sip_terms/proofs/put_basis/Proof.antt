@@ -4,7 +4,6 @@ use Rattle.cd_plate.proofs.Filling.{Front, start, again}
 use Rattle.sip_terms.proofs.Places.{low-term, term-more}
 use Rattle.sip_terms.specs.Steps.{basisIn}
 use Rattle.sip_terms.specs.Terms.{termAt}
-use denote.Ref.{now}
 use lib.ListN.{length, drop-of-length-le}
 use native.Mathlib.Omega.{arith}
 use mathlib.Core.List.{append-nil}

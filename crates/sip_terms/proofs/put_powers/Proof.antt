@@ -4,7 +4,6 @@ use Rattle.cd_plate.proofs.Filling.{Front, start, again}
 use lib.Ieee.{ofBits}
 use Rattle.sip_terms.proofs.Places.{power-more}
 use Rattle.floats.specs.Power.{powerOf}
-use denote.Ref.{now}
 use lib.ListN.{length, drop-of-length-le}
 use native.Mathlib.Omega.{arith}
 use mathlib.Core.List.{append-nil}

@@ -3,7 +3,6 @@ use borrow.Author.Needs.{needs}
 use Rattle.sip_terms.proofs.Places.{low-term, term-more}
 use Rattle.sip_terms.specs.Steps.{valueIn}
 use Rattle.sip_terms.specs.Terms.{termAt}
-use denote.Ref.{now}
 use lib.ListN.{length}
 use native.Mathlib.Omega.{arith}
 use native.Mathlib.Numerals.{add-one}

@@ -1,7 +1,7 @@
--- `sip::check_call` meets its contract: the tests of what is read decide, then the others. Assumes nothing.
+-- `sip_tests::check_call` meets its contract: the tests of what is read decide, then the others. Assumes nothing.
 use borrow.Author.Needs.{needs}
-use Rattle.sip.proofs.check_call.Statement.{statement}
-use Rattle.sip.proofs.check_call.Tie as tie
+use Rattle.sip_tests.proofs.check_call.Statement.{statement}
+use Rattle.sip_tests.proofs.check_call.Tie as tie
 
 check-field-requires : tie.Need-check-field-requires
 check-field-requires c κs = search needs

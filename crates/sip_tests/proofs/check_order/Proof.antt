@@ -1,11 +1,10 @@
--- `sip::check_order` meets its contract: each test has its own return. Assumes nothing.
-use Rattle.sip.proofs.Passed.{in-order}
+-- `sip_tests::check_order` meets its contract: each test has its own return. Assumes nothing.
+use Rattle.sip_tests.proofs.Passed.{in-order}
 use native.Mathlib.Omega.{arith}
-use Prim.Native.Nat.{_-_}
-use Rattle.sip.specs.Call.{orderAnswer}
+use Rattle.sip_tests.specs.Tests.{orderAnswer}
 use borrow.Author.Needs.{needs}
-use Rattle.sip.proofs.check_order.Statement.{statement}
-use Rattle.sip.proofs.check_order.Tie as tie
+use Rattle.sip_tests.proofs.check_order.Statement.{statement}
+use Rattle.sip_tests.proofs.check_order.Tie as tie
 
 returns : tie.Need-returns
 unfolding orderAnswer

@@ -1,8 +1,8 @@
--- `sip::check_field` meets its contract: each test has its own return. Assumes nothing.
-use Rattle.sip.specs.Call.{fieldAnswer}
+-- `sip_tests::check_field` meets its contract: each test has its own return. Assumes nothing.
+use Rattle.sip_tests.specs.Tests.{fieldAnswer}
 use borrow.Author.Needs.{needs}
-use Rattle.sip.proofs.check_field.Statement.{statement}
-use Rattle.sip.proofs.check_field.Tie as tie
+use Rattle.sip_tests.proofs.check_field.Statement.{statement}
+use Rattle.sip_tests.proofs.check_field.Tie as tie
 
 few-rows-requires : tie.Need-few-rows-requires
 few-rows-requires c κs = search needs

@@ -1,8 +1,8 @@
--- `sip::is_taken` meets its contract: the numbers are tested one by one. Assumes nothing.
+-- `sip_tests::is_taken` meets its contract: the numbers are tested one by one. Assumes nothing.
 use Rattle.cd_residuals.specs.Residuals.{isWcs}
 use borrow.Author.Needs.{needs}
-use Rattle.sip.proofs.is_taken.Statement.{statement}
-use Rattle.sip.proofs.is_taken.Tie as tie
+use Rattle.sip_tests.proofs.is_taken.Statement.{statement}
+use Rattle.sip_tests.proofs.is_taken.Tie as tie
 
 is-position-requires : tie.Need-is-position-requires
 is-position-requires c κs = search needs

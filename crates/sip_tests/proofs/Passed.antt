@@ -11,7 +11,7 @@ use Rattle.rows.specs.Rows.{count, fewRows, evenRows}
 use Rattle.cd_residuals.specs.declared.Wcs.{Wcs}
 use Rattle.sip_terms.specs.Terms.{termCount}
 use Rattle.sip_sums.specs.Field.{Field}
-use Rattle.sip.specs.Call.{fewField, evenField, fieldAnswer, noOrder, orderAnswer, testsAnswer}
+use Rattle.sip_tests.specs.Tests.{fewField, evenField, fieldAnswer, noOrder, orderAnswer, testsAnswer}
 
 -- at most a hundred rows, in five lists of one length
 pub record Even (f : Field) : Type 0 where

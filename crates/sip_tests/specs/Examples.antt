@@ -1,0 +1,82 @@
+-- Worked examples, each by computation.
+use mathlib.Core.Path.{_≡_, refl}
+use mathlib.Core.List.{List, [], _∷_}
+use Prim.Native.Nat.{ℕ}
+use lib.IntN.{pos}
+use lib.ListN.{replicate}
+use lib.Ieee.{Float, binary64, ofBits, ofInt, sub, mul, neg, lt, le, eq}
+use Rattle.floats.specs.Magnitude.{magnitudeOf}
+use Rattle.domain.specs.Domain.{every}
+use Rattle.domain.specs.declared.Refusal.the-variants.{Count, Lengths, Value, Order, Rows, Room, Degenerate}
+use Rattle.domain.specs.declared.Answer.the-variants.{Done, Refused}
+use Rattle.rows.specs.Rows.{rows, positionRows}
+use Rattle.cd_plate.specs.Plate.{determinantOf, isCd}
+use Rattle.cd_residuals.specs.declared.Wcs.{Wcs}
+use Rattle.cd_residuals.specs.Residuals.{isWcs}
+use Rattle.sip_terms.specs.Terms.{countTo}
+use Rattle.sip_sums.specs.Field.{Field, field}
+use Rattle.sip_tests.specs.Tests.{fieldAnswer, orderAnswer, testsAnswer}
+
+-- a whole number as a float, and its negation
+abbrev f : ℕ → Float
+f k = ofInt binary64 (pos k)
+
+abbrev m : ℕ → Float
+m k = neg (f k)
+
+abbrev half : Float
+half = ofBits binary64 0x3fe0_0000_0000_0000
+
+-- -1.5
+abbrev past : Float
+past = ofBits binary64 0xbff8_0000_0000_0000
+
+-- the WCS that changes nothing, and one whose determinant is 0.0
+abbrev unit : Wcs
+unit = record { crpix1 = f 0; crpix2 = f 0; cd1_1 = f 1; cd1_2 = f 0; cd2_1 = f 0; cd2_2 = f 1 }
+
+abbrev flat : Wcs
+flat = record { crpix1 = f 0; crpix2 = f 0; cd1_1 = f 1; cd1_2 = f 1; cd2_1 = f 1; cd2_2 = f 1 }
+
+abbrev six : Float → List Float
+six x = replicate 6 x
+
+-- six rows
+abbrev bent : Wcs → List Float → Field
+bent w snr =
+    field (rows (f 1 ∷ m 1 ∷ f 1 ∷ m 1 ∷ f 1 ∷ m 1 ∷ []) (f 0 ∷ f 0 ∷ f 1 ∷ f 1 ∷ m 1 ∷ m 1 ∷ []) (half ∷ past ∷ half ∷ past ∷ half ∷ past ∷ []) (f 0 ∷ f 0 ∷ f 1 ∷ f 1 ∷ m 1 ∷ m 1 ∷ [])) snr w
+
+-- the refusals in their order, each of an input that later tests would refuse too
+too-many : testsAnswer (bent flat (replicate 101 (m 1))) 6 0 0 ≡ Refused Count
+unfolding fieldAnswer
+too-many = refl
+
+unlike-lengths : testsAnswer (bent flat (m 1 ∷ [])) 6 0 0 ≡ Refused Lengths
+unfolding fieldAnswer
+unlike-lengths = refl
+
+below-zero : testsAnswer (bent flat (six (m 1))) 6 0 0 ≡ Refused Value
+unfolding fieldAnswer positionRows every isWcs isCd ofBits ofInt neg lt le eq
+below-zero = refl
+
+no-order : testsAnswer (bent flat (six (f 1))) 6 0 0 ≡ Refused Order
+unfolding fieldAnswer orderAnswer positionRows every isWcs isCd ofBits ofInt neg lt le eq
+no-order = refl
+
+-- seven terms, six rows
+few-rows : testsAnswer (bent flat (six (f 1))) 3 0 0 ≡ Refused Rows
+unfolding fieldAnswer orderAnswer positionRows every isWcs isCd countTo ofBits ofInt neg lt le eq
+few-rows = refl
+
+no-room : testsAnswer (bent flat (six (f 1))) 2 3 2 ≡ Refused Room
+unfolding fieldAnswer orderAnswer positionRows every isWcs isCd countTo ofBits ofInt neg lt le eq
+no-room = refl
+
+no-determinant : testsAnswer (bent flat (six (f 1))) 2 3 3 ≡ Refused Degenerate
+unfolding fieldAnswer orderAnswer positionRows every isWcs isCd countTo determinantOf magnitudeOf ofBits ofInt sub mul neg lt le eq
+no-determinant = refl
+
+-- and one that passes
+passes : testsAnswer (bent unit (six (f 1))) 2 3 3 ≡ Done
+unfolding fieldAnswer orderAnswer positionRows every isWcs isCd countTo determinantOf magnitudeOf ofBits ofInt sub mul neg lt le eq
+passes = refl
