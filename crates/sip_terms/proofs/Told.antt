@@ -1,0 +1,40 @@
+-- Lists that are told number by number. Assumes nothing.
+use mathlib.Core.Path.{_≡_, refl, _∙_}
+use mathlib.Core.Bool.{Bool, true, false}
+use mathlib.Core.List.{List, [], _∷_, _++_}
+use Prim.Native.Nat.{ℕ, zero, suc, _+_, _<_}
+use native.Mathlib.Nat.{add-zero}
+use native.Mathlib.Omega.{arith}
+use lib.Dec.{ltb}
+use lib.ListN.{length, getD, drop, List·getD-append}
+use lib.Seq.{getD-at, getD-drop, getD-append-add}
+use borrow.Author.Tests.{ltb-true, ltb-false}
+use Rattle.cd_plate.specs.Filled.{filled}
+use Rattle.cd_plate.proofs.Filling.{filled-length}
+
+-- what stands at a place
+pub filled-at : {A : Type 0} (f : ℕ → A) (n i : ℕ) (d : A) → i < n → getD (filled f n) i d ≡ f i
+unfolding filled
+filled-at f zero i d h = absurd (omega arith)
+filled-at {A} f (suc n) i d h = go (ltb i n) refl (λ g. filled-at f n i d g)
+  where
+    go : (b : Bool) → ltb i n ≡ b → (i < n → getD (filled f n) i d ≡ f i) → getD (filled f n ++ (f n ∷ [])) i d ≡ f i
+    go true e r =
+        let g : i < n = ltb-true i n e in
+        List·getD-append (filled f n) (f n ∷ []) d i (rw (filled-length f n) g) ∙ r g
+    go false e r =
+        let g : i ≡ n = omega (arith, ltb-false i n e) in
+        rw g (getD-at (filled f n) (f n) [] d n (filled-length f n))
+
+-- two lists told alike are the same
+pub filled-same : {A : Type 0} (f g : ℕ → A) (n : ℕ) → ((i : ℕ) → i < n → f i ≡ g i) → filled f n ≡ filled g n
+unfolding filled
+filled-same f g zero e = refl
+filled-same f g (suc n) e = rw (filled-same f g n (λ i h. e i (omega arith)), e n (omega arith))
+
+-- behind what is filled stands what stood there
+pub front-at : {A : Type 0} (f : ℕ → A) (k : ℕ) (old : List A) (d : A) → getD (filled f k ++ drop k old) k d ≡ getD old k d
+front-at f k old d =
+    let e : length (filled f k) + 0 ≡ k = add-zero (length (filled f k)) ∙ filled-length f k in
+    let g : getD (filled f k ++ drop k old) (length (filled f k) + 0) d ≡ getD (drop k old) 0 d = getD-append-add (filled f k) (drop k old) 0 d in
+    (rw e at g) ∙ getD-drop k old 0 d ∙ rw (add-zero k)
