@@ -17,7 +17,7 @@ pub struct Writer<'a> {
 }
 
 // A writer at the first place.
-pub fn open<'a>(buf: &'a mut [u8]) -> Writer<'a>
+pub fn new<'a>(buf: &'a mut [u8]) -> Writer<'a>
     ensures { λ r. ⌜ (r .buf ≡ buf .entry) × (r .at ≡ 0) ⌝ }
 {
     Writer { buf: buf, at: 0 }
@@ -63,7 +63,7 @@ pub fn errors<'a>(w: Writer<'a>, part: Sip) -> Writer<'a>
 }
 
 // How far it came; the bytes stay.
-pub fn close<'a>(w: Writer<'a>) -> usize
+pub fn finish<'a>(w: Writer<'a>) -> usize
     ensures { λ r. ⌜ (r ≡ w .entry .at) × (now (w .exit .0) ≡ now (w .entry .buf)) ⌝ }
 {
     w.at
@@ -74,9 +74,9 @@ pub fn write_lines(buf: &mut [u8], start: Head, a: Axis, b: Axis, fit: Sip) -> u
     requires { ⌜ (a .terms ≤ 18) × (b .terms ≤ 18) × Room (now buf) 0 (partsText start a b fit) ⌝ }
     ensures { λ r. ⌜ Put (now (buf .entry)) 0 (partsText start a b fit) r (now (buf .exit)) ⌝ }
 {
-    let w = head(open(buf), start);
+    let w = head(new(buf), start);
     let w = axis(w, a);
     let w = axis(w, b);
     let w = errors(w, fit);
-    close(w)
+    finish(w)
 }

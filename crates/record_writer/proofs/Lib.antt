@@ -1,0 +1,3 @@
+pub mod Held
+pub mod Again
+pub mod Thin
