@@ -50,7 +50,7 @@ use Rattle.record_writer.proofs.Writer.Laws as T′
 use Rattle.record_writer.proofs.Held.{writer-spent, writer-spent-goes}
 use Rattle.record_writer.proofs.Again.{LentAgain, lends-again, comes-back}
 
-module _ (P : Declared) (L : LL.Laws P) (facts : Plains (fields P)) (called : Name) (Asks : List ℕ → ℕ → P .D → Type 0) (text : P .D → List ℕ) where
+module _ (P : Declared) (Asks : List ℕ → ℕ → P .D → Type 0) (text : P .D → List ℕ) where
   -- the part's type, which a function leaves as it was passed
   abbrev pub Part : RattleType
   Part = record {
@@ -101,6 +101,15 @@ module _ (P : Declared) (L : LL.Laws P) (facts : Plains (fields P)) (called : Na
     ensures = λ _ r e. fact 𝓤 (r ≡ wrote (a .0) (text (a .1 .0)));
   }
 
+  -- the contract of the called function
+  abbrev pub Inner : {M : Type 1} (𝓤 : URA M) (H : Heap 𝓤) (A : Atoms 𝓤) → Contract 𝓤
+  Inner 𝓤 H A = tripleOf 𝓤 H A (inner .signature) (closing 𝓤 H A inner (inner-clauses 𝓤))
+
+  -- and of the function over the writer
+  abbrev pub Thin : {M : Type 1} (𝓤 : URA M) (H : Heap 𝓤) (A : Atoms 𝓤) → Contract 𝓤
+  Thin 𝓤 H A = tripleOf 𝓤 H A (thin .signature) (closing 𝓤 H A thin (thin-clauses 𝓤))
+
+module _ (P : Declared) (called : Name) where
   -- the function's MIR
   abbrev byte-ptr : Ty
   byte-ptr = tyRef erased mut (tyInt w8)
@@ -130,12 +139,12 @@ module _ (P : Declared) (L : LL.Laws P) (facts : Plains (fields P)) (called : Na
         (seq (assign (place 0 []) (aggregate (copy (place 8 []) ∷ copy (place 4 []) ∷ []))) return))));
   }
 
-  abbrev stayed : Stays (thin .signature .params) (thin .kept)
-  stayed = (writer-spent, (stay-none (λ _. Part) yes, tt))
+module _ (P : Declared) (L : LL.Laws P) (facts : Plains (fields P)) (called : Name) (Asks : List ℕ → ℕ → P .D → Type 0) (text : P .D → List ℕ) where
+  abbrev R : RattleType
+  R = Part P Asks text
 
-  -- the contract of the called function
-  abbrev pub Inner : {M : Type 1} (𝓤 : URA M) (H : Heap 𝓤) (A : Atoms 𝓤) → Contract 𝓤
-  Inner 𝓤 H A = tripleOf 𝓤 H A (inner .signature) (closing 𝓤 H A inner (inner-clauses 𝓤))
+  abbrev stayed : Stays (thin P Asks text .signature .params) (thin P Asks text .kept)
+  stayed = (writer-spent, (stay-none (λ _. R) yes, tt))
 
   module _ {M : Type 1} (𝓤 : URA M) (H : Heap 𝓤) (A : Atoms 𝓤) (W : Given 𝓤 H A) (κ : Lft) (q : Share) (b o : ℕ) (γ : GName) (ys : List ℕ) (n : ℕ) (d : P .D) (n-fits : n < 2 ^ 64) (d-is : Is (row P) d (LL.vals P L d)) where
     abbrev α : NamedLft
@@ -168,16 +177,16 @@ module _ (P : Declared) (L : LL.Laws P) (facts : Plains (fields P)) (called : Na
     vals = (mach n ∷ [], (sv ∷ [], tt))
 
     abbrev Post : Val → SProp 𝓤
-    Post = walkOf 𝓤 H A thin stayed (thin-clauses 𝓤) .post (((κ, tt), (q, tt), tt, a, vals), tt)
+    Post = walkOf 𝓤 H A (thin P Asks text) stayed (thin-clauses P Asks text 𝓤) .post (((κ, tt), (q, tt), tt, a, vals), tt)
 
     -- what the called function's triple binds outside: the slice lent again for the lifetime ν, under the name δ
-    abbrev to-inner : ℕ → GName → Inner 𝓤 H A .Ghost
+    abbrev to-inner : ℕ → GName → Inner P Asks text 𝓤 H A .Ghost
     to-inner ν δ = (((ν ∷ [], tt), (fullShare, tt), tt, (x δ ys, (n, (d, tt))), (s ∷ [], (vint w64 n ∷ [], (sv ∷ [], tt)))), tt)
 
-    goes : (ν : ℕ) (δ : GName) → Asks ys n d → ent 𝓤 (sep 𝓤 (A .lft (ν ∷ []) fullShare) (sem 𝓤 H A (MutSlice (named 0) (ν ∷ []) u8 .own (x δ ys) (s ∷ [])))) (Inner 𝓤 H A .pre (to-inner ν δ))
+    goes : (ν : ℕ) (δ : GName) → Asks ys n d → ent 𝓤 (sep 𝓤 (A .lft (ν ∷ []) fullShare) (sem 𝓤 H A (MutSlice (named 0) (ν ∷ []) u8 .own (x δ ys) (s ∷ [])))) (Inner P Asks text 𝓤 H A .pre (to-inner ν δ))
     goes ν δ asked =
         qed W (‵ (flft (ν ∷ []) fullShare) ∷ ‵ (MutSlice (named 0) (ν ∷ []) u8 .own (x δ ys) (s ∷ [])) ∷ []) ∵ says ! asked $ nothing ! $ move ! (1 ∷ 0 ∷ []) $ join ! $ frame ! $
-        nothing ! $ owned ! Part (Is Part) (LL.makes P facts 𝓤 H A) d _ d-is $ fjoin ! $ owned ! usize (Is usize) (uint-makes 𝓤 H A W w64) n _ (refl, n-fits) $ fjoin ! $ move ! (1 ∷ 0 ∷ []) $ fjoin ! $ done !
+        nothing ! $ owned ! R (Is R) (LL.makes P facts 𝓤 H A) d _ d-is $ fjoin ! $ owned ! usize (Is usize) (uint-makes 𝓤 H A W w64) n _ (refl, n-fits) $ fjoin ! $ move ! (1 ∷ 0 ∷ []) $ fjoin ! $ done !
 
     -- what is had at exit of the parameter's fields, and of the result's, at their machine values
     abbrev had : List Val × (List Val × Unit {0}) → Fml
@@ -189,18 +198,18 @@ module _ (P : Declared) (L : LL.Laws P) (facts : Plains (fields P)) (called : Na
     exits : (r : ℕ) (zs : List ℕ) → Put ys n (text d) r zs → r < 2 ^ 64 → ent 𝓤 (sep 𝓤 (A .lft κ q) (sem 𝓤 H A (MutSlice (named 0) κ u8 .own (x γ zs) (s ∷ [])))) (Post (mach r))
     exits r zs e r-fits =
         qed W (‵ (flft κ q) ∷ ‵ (MutSlice (named 0) κ u8 .own (x γ zs) (s ∷ [])) ∷ []) ∵
-        suffices ! _ (ends-at 𝓤 H A thin stayed (thin-clauses 𝓤) W (((κ, tt), (q, tt), tt, a, vals), tt) (mach r) (record { buf = x γ zs; at = r }) ((tt, tt), (tt, tt)) ((tt, (tt, tt)), (tt, tt))) $ says ! (λ i. record { buf = x γ (e .new-is i); at = e .next-is i }) $
+        suffices ! _ (ends-at 𝓤 H A (thin P Asks text) stayed (thin-clauses P Asks text 𝓤) W (((κ, tt), (q, tt), tt, a, vals), tt) (mach r) (record { buf = x γ zs; at = r }) ((tt, tt), (tt, tt)) ((tt, (tt, tt)), (tt, tt))) $ says ! (λ i. record { buf = x γ (e .new-is i); at = e .next-is i }) $
         nothing ! $ move ! (1 ∷ 0 ∷ []) $ join ! $ frame ! $
         nothing ! $ owned ! usize (Is usize) (uint-makes 𝓤 H A W w64) r _ (refl, r-fits) $ fjoin ! $ move ! (1 ∷ 0 ∷ []) $ fjoin ! $
         use1 W (‵ (T.the-row α .own (record { buf = x γ zs; at = r }) (mach r ∷ []))) (makes 𝓤 H A W (MutSlice (named 0) κ u8 ∷ usize ∷ []) (given-on r zs) (s ∷ [], (vint w64 r ∷ [], tt))) $
         nothing ! $ owned ! usize (Is usize) (uint-makes 𝓤 H A W w64) n _ (refl, n-fits) $ fjoin ! $ nothing ! $ fjoin ! $
         use1 W (‵ (inStruct (MutSlice (named 0) κ u8 ∷ usize ∷ []) (mach n ∷ []) had)) (makes 𝓤 H A W (MutSlice (named 0) κ u8 ∷ usize ∷ []) had (s ∷ [], (vint w64 n ∷ [], tt))) $
-        nothing ! $ owned ! Part (Is Part) (LL.makes P facts 𝓤 H A) d _ d-is $ fjoin ! $ move ! (1 ∷ 0 ∷ []) $ fjoin ! $ done !
+        nothing ! $ owned ! R (Is R) (LL.makes P facts 𝓤 H A) d _ d-is $ fjoin ! $ move ! (1 ∷ 0 ∷ []) $ fjoin ! $ done !
 
-    module _ (C : Calls 𝓤 H) (Λ : Loops 𝓤 H) (fm : FmC 𝓤 H (W .laws) C) (known : Triple 𝓤 (C called) (Inner 𝓤 H A)) where
-      walk : Is (T.the-row α) h (mach n ∷ []) → Room u8 (length ys) → Asks ys n d → ent 𝓤 (onEntry 𝓤 H A (thin .signature) (κ, tt) (q, tt) a vals) (WpFn 𝓤 H C Λ thin-function (mach n ∷ sv ∷ []) Post)
+    module _ (C : Calls 𝓤 H) (Λ : Loops 𝓤 H) (fm : FmC 𝓤 H (W .laws) C) (known : Triple 𝓤 (C called) (Inner P Asks text 𝓤 H A)) where
+      walk : Is (T.the-row α) h (mach n ∷ []) → Room u8 (length ys) → Asks ys n d → ent 𝓤 (onEntry 𝓤 H A (thin P Asks text .signature) (κ, tt) (q, tt) a vals) (WpFn 𝓤 H C Λ (thin-function P called) (mach n ∷ sv ∷ []) Post)
       walk g room asked =
-          qed W ((‵ (flft κ q) ⊛ ‵ ftrue) ∷ ‵ (owns (T.the-row α ∷ Part ∷ []) a vals) ∷ []) ∵ enter ! C Λ thin-function (mach n ∷ sv ∷ []) _ $
+          qed W ((‵ (flft κ q) ⊛ ‵ ftrue) ∷ ‵ (owns (T.the-row α ∷ R ∷ []) a vals) ∷ []) ∵ enter ! C Λ (thin-function P called) (mach n ∷ sv ∷ []) _ $
           alloc1 ! (λ l₀. alloc1 ! (λ l₁. alloc1 ! (λ l₂. alloc1 ! (λ l₃. alloc1 ! (λ l₄. alloc1 ! (λ l₅. alloc1 ! (λ l₆. alloc1 ! (λ l₇. alloc1 ! (λ l₈. alloc0 ! $ params1 ! $
           pass1 ! (init ! 14 refl (LL.lawful (T.the-type α) (T′.the-laws α) 𝓤 H A W .typed h _ g .0)) $ pass1 ! (init ! 12 refl (LL.lawful P L 𝓤 H A W .typed d _ d-is .0)) $ pass0 ! $
           -- [_8; …; _7; …; _6; …; _5; …; _4; …; _3; …; _2; …; _1; …; room for _0; …; the token; what w and the part own]
@@ -211,11 +220,11 @@ module _ (P : Declared) (L : LL.Laws P) (facts : Plains (fields P)) (called : Na
           -- the slice is lent again, for a lifetime ν of the call
           move ! (21 ∷ []) $ split ! $ lft-new ! tt (λ ν. move ! (3 ∷ 1 ∷ []) $
           use2 W (later (some (λ (δ : GName). ‵ (MutSlice (named 0) (ν ∷ []) u8 .own (x δ ys) (s ∷ [])) ⊛ ‵ (LentAgain u8 κ (ν ∷ []) q γ b o δ ys)))) (lends-again u8 κ (ν ∷ []) q γ b o 𝓤 H A W (named 0) (named 0) ys) $ await ! tt $ pick ! (λ δ. split ! $
-          move ! (2 ∷ 0 ∷ []) $ use2 W (raw (Inner 𝓤 H A .pre (to-inner ν δ))) (goes ν δ asked) $
-          calls-at ! fm (Inner 𝓤 H A) known (to-inner ν δ) (and-then ! (load ! (from ! (stop !)) (look ! 9 refl)) (and-then ! (load ! (from ! (stop !)) (look ! 15 refl)) (and-then ! (load ! (from ! (stop !)) (look ! 17 refl)) (no-more !)))) (λ w.
-          use1 W (later (some (λ (r : ℕ). ((‵ (flft (ν ∷ []) fullShare) ⊛ ‵ ftrue) ⊛ ‵ (usize .own r (w ∷ []))) ⊛ raw (ensured 𝓤 H A inner (inner-clauses 𝓤) (ν ∷ [], tt) (x δ ys, (n, (d, tt))) tt r)))) (id⊢ 𝓤 _) $ await ! tt $ pick ! (λ r.
+          move ! (2 ∷ 0 ∷ []) $ use2 W (raw (Inner P Asks text 𝓤 H A .pre (to-inner ν δ))) (goes ν δ asked) $
+          calls-at ! fm (Inner P Asks text 𝓤 H A) known (to-inner ν δ) (and-then ! (load ! (from ! (stop !)) (look ! 9 refl)) (and-then ! (load ! (from ! (stop !)) (look ! 15 refl)) (and-then ! (load ! (from ! (stop !)) (look ! 17 refl)) (no-more !)))) (λ w.
+          use1 W (later (some (λ (r : ℕ). ((‵ (flft (ν ∷ []) fullShare) ⊛ ‵ ftrue) ⊛ ‵ (usize .own r (w ∷ []))) ⊛ raw (ensured 𝓤 H A (inner P Asks text) (inner-clauses P Asks text 𝓤) (ν ∷ [], tt) (x δ ys, (n, (d, tt))) tt r)))) (id⊢ 𝓤 _) $ await ! tt $ pick ! (λ r.
           -- what it ensures, at some last list
-          split ! $ move ! (1 ∷ []) $ use1 W (some (λ (zs : List ℕ × (Unit {0} × (Unit {0} × Unit {0}))). ‵ (lasts inner (ν ∷ [], tt) (x δ ys, (n, (d, tt))) zs) ⊛ raw (fact 𝓤 (Put ys n (text d) r (zs .0))))) (id⊢ 𝓤 _) $ pick ! (λ zs.
+          split ! $ move ! (1 ∷ []) $ use1 W (some (λ (zs : List ℕ × (Unit {0} × (Unit {0} × Unit {0}))). ‵ (lasts (inner P Asks text) (ν ∷ [], tt) (x δ ys, (n, (d, tt))) zs) ⊛ raw (fact 𝓤 (Put ys n (text d) r (zs .0))))) (id⊢ 𝓤 _) $ pick ! (λ zs.
           split ! $ move ! (1 ∷ []) $ heard ! (Put ys n (text d) r (zs .0)) (λ e. fsplit ! $ fsplit ! $ move ! (1 ∷ []) $ feqL ! (λ l.
           move ! (2 ∷ []) $ split ! $ move ! (1 ∷ []) $ peeks ! usize (Is usize) (shows 𝓤 H A usize) r (w ∷ []) (λ is.
           land ! (from ! (stop !)) (init ! 16 refl (uint-lawful 𝓤 H A W w64 .typed r _ is .0)) $ rewrite ! 16 (λ (u : Val). ‵ (fat fullShare (tyInt w64) l₄ 0 u)) (ap only (is .0)) refl $
@@ -231,14 +240,14 @@ module _ (P : Declared) (L : LL.Laws P) (facts : Plains (fields P)) (called : Na
           keep ! (1 ∷ 0 ∷ []) $ by ! (exits r (zs .0) e (is .1))))))))))))))))))))
 
   module _ {M : Type 1} (𝓤 : URA M) (H : Heap 𝓤) (A : Atoms 𝓤) (W : Given 𝓤 H A) where
-    walks : (C : Calls 𝓤 H) (Λ : Loops 𝓤 H) → FmC 𝓤 H (W .laws) C → Triple 𝓤 (C called) (Inner 𝓤 H A) → Walks 𝓤 H A thin stayed (WpFn 𝓤 H C Λ thin-function) (thin-clauses 𝓤)
-    walks C Λ fm known = walked 𝓤 H A thin stayed (thin-clauses 𝓤) (WpFn 𝓤 H C Λ thin-function)
+    walks : (C : Calls 𝓤 H) (Λ : Loops 𝓤 H) → FmC 𝓤 H (W .laws) C → Triple 𝓤 (C called) (Inner P Asks text 𝓤 H A) → Walks 𝓤 H A (thin P Asks text) stayed (WpFn 𝓤 H C Λ (thin-function P called)) (thin-clauses P Asks text 𝓤)
+    walks C Λ fm known = walked 𝓤 H A (thin P Asks text) stayed (thin-clauses P Asks text 𝓤) (WpFn 𝓤 H C Λ (thin-function P called))
         (λ κs. (LL.vals (T.the-type (namedLft 1 0 tt κs)) (T′.the-laws (namedLft 1 0 tt κs)), (LL.vals P L, tt))) (λ κs. (LL.tells (T.the-type (namedLft 1 0 tt κs)) (T′.the-laws (namedLft 1 0 tt κs)), (LL.tells P L, tt)))
         (λ κs qs bounds a g are. needs 𝓤 (Asks (a .0 .buf .now) (a .0 .at) (a .1 .0)) _ (λ asked.
         let parts = LL.owed (T.the-type (namedLft 1 0 tt κs)) (T′.the-laws (namedLft 1 0 tt κs)) (a .0) _ (are .0) in
         walk 𝓤 H A W (κs .0) (qs .0) (a .0 .buf .ptr .0) (a .0 .buf .ptr .1) (a .0 .buf .name) (a .0 .buf .now) (a .0 .at) (a .1 .0) (parts .1 .0 .1) (are .1 .0) C Λ fm known (are .0) (parts .0 .0 .1) asked))
 
-    pub thin-meets : (𝓣 : Tables 𝓤 H) → Triple 𝓤 (𝓣 .C called) (Inner 𝓤 H A) → Meets 𝓤 H A (thin .signature) (WpFn 𝓤 H (𝓣 .C) (𝓣 .Λ) thin-function) (closing 𝓤 H A thin (thin-clauses 𝓤))
+    pub thin-meets : (𝓣 : Tables 𝓤 H) → Triple 𝓤 (𝓣 .C called) (Inner P Asks text 𝓤 H A) → Meets 𝓤 H A (thin P Asks text .signature) (WpFn 𝓤 H (𝓣 .C) (𝓣 .Λ) (thin-function P called)) (closing 𝓤 H A (thin P Asks text) (thin-clauses P Asks text 𝓤))
     thin-meets 𝓣 known =
-        walk-meets 𝓤 H A thin stayed W (writer-spent-goes 𝓤 H A W, (goes-none 𝓤 H A W 1 (λ _. Part) yes (λ κs x f. refl), tt)) (thin-clauses 𝓤)
-        (WpFn 𝓤 H (𝓣 .C) (𝓣 .Λ) thin-function) (WpFn-mono 𝓤 H (W .laws) 𝓣 thin-function) (walks (𝓣 .C) (𝓣 .Λ) (fmOf 𝓤 H (W .laws) 𝓣) known)
+        walk-meets 𝓤 H A (thin P Asks text) stayed W (writer-spent-goes 𝓤 H A W, (goes-none 𝓤 H A W 1 (λ _. R) yes (λ κs x f. refl), tt)) (thin-clauses P Asks text 𝓤)
+        (WpFn 𝓤 H (𝓣 .C) (𝓣 .Λ) (thin-function P called)) (WpFn-mono 𝓤 H (W .laws) 𝓣 (thin-function P called)) (walks (𝓣 .C) (𝓣 .Λ) (fmOf 𝓤 H (W .laws) 𝓣) known)
