@@ -41,13 +41,16 @@ in-order order b e n =
     let both = and-eq-true-iff (leb 2 order) (leb order 5) .0 (sym e ∙ not-false b n) in
     (leb-true 2 order (both .0), omega (arith, leb-true order 5 (both .1)))
 
--- its order is at most 5, and it has at most 18 coefficients on each axis
-pub record Small (order a b : ℕ) : Type 0 where
+-- its rows are at most 100, its order is at most 5, and it has as many coefficients on each axis as terms, at most 18
+pub record Checked (rows order a b : ℕ) : Type 0 where
+  pub few-rows : rows ≤ 100
   pub low : order ≤ 5
+  pub a-is : a ≡ termCount order
+  pub b-is : b ≡ termCount order
   pub few-a : a ≤ 18
   pub few-b : b ≤ 18
 
-pub checked : (fit : Sip) (wcs : Wcs) (order a b : ℕ) → inputAnswer fit wcs order a b ≡ answer.Done → Small order a b
+pub checked : (fit : Sip) (wcs : Wcs) (order a b : ℕ) → inputAnswer fit wcs order a b ≡ answer.Done → Checked (fit .«rows_used») order a b
 unfolding inputAnswer lengthsFit
 checked fit wcs order a b e =
     let f = passed (ltb 100 (fit .«rows_used»)) _ _ e in
@@ -60,7 +63,7 @@ checked fit wcs order a b e =
     let both = and-eq-true-iff (eqb a (termCount order)) (eqb b (termCount order)) .0 same in
     let ea : a ≡ termCount order = eqb-true a (termCount order) (both .0) in
     let eb : b ≡ termCount order = eqb-true b (termCount order) (both .1) in
-    record { low = low; few-a = omega (arith, ea, few-terms order low); few-b = omega (arith, eb, few-terms order low) }
+    record { few-rows = ltb-false 100 (fit .«rows_used») (f .0); low = low; a-is = ea; b-is = eb; few-a = omega (arith, ea, few-terms order low); few-b = omega (arith, eb, few-terms order low) }
 
 -- ---- the parts of a record, one after the other, are its lines
 
