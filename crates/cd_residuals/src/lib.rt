@@ -40,7 +40,7 @@ impl Wcs {
     }
 
     // Whether the reference pixel is a position, and each factor finite.
-    fn is_taken(self) -> bool
+    pub fn is_taken(self) -> bool
         ensures { λ r. ⌜ r ≡ isWcs self ⌝ }
     {
         let pixel = domain::is_position(self.crpix1) & domain::is_position(self.crpix2);

@@ -40,14 +40,14 @@ pub struct Term {
 
 impl Term {
     // u^2.
-    fn first() -> Term
+    pub fn first() -> Term
         ensures { λ r. ⌜ r ≡ firstTerm ⌝ }
     {
         Term { p: 2, q: 0 }
     }
 
     // The one after it.
-    fn next(self) -> Term
+    pub fn next(self) -> Term
         requires { ⌜ self .p + self .q < 100 ⌝ }
         ensures { λ r. ⌜ r ≡ nextTerm self ⌝ }
     {
@@ -108,7 +108,7 @@ pub fn put_basis(up: &[f64], vp: &[f64], out: &mut [f64])
 }
 
 // Whether a coefficient is kept; NaN is not.
-fn is_kept(c: f64) -> bool
+pub fn is_kept(c: f64) -> bool
     ensures { λ r. ⌜ r ≡ isKept c ⌝ }
 {
     floats::magnitude(c) > Sip::LEAST_COEFFICIENT

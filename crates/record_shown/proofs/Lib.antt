@@ -1,0 +1,4 @@
+pub mod Front
+pub mod Terms
+pub mod Same
+pub mod Most

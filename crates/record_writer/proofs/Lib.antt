@@ -1,0 +1,4 @@
+pub mod Held
+pub mod Again
+pub mod Thin
+pub mod Handed
