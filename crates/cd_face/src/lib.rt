@@ -32,7 +32,7 @@ pub fn cd_in(m: &[f64]) -> Cd
 }
 
 // The WCS that six numbers make.
-fn wcs_in(m: &[f64]) -> Wcs
+pub fn wcs_in(m: &[f64]) -> Wcs
     requires { ⌜ 6 ≤ length (now m) ⌝ }
     ensures { λ r. ⌜ r ≡ wcsIn (now (m .entry)) ⌝ }
 {
