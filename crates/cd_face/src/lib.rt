@@ -17,7 +17,7 @@ ghost use Rattle.cd_residuals.specs.Residuals.{residualsX, residualsY, residual
 ghost use Rattle.cd_face.specs.Face.{fitFace, fitWritten, weightedFit, wcsIn, errorsFace, errorsWritten, residualsFace, valueAfter, rmsDone, rmsIn, rmsFace, rmsValue, weightedFace, weightedValue};
 
 // The WCS that six numbers make.
-fn wcs_in(m: &[f64]) -> Wcs
+pub fn wcs_in(m: &[f64]) -> Wcs
     requires { ⌜ 6 ≤ length (now m) ⌝ }
     ensures { λ r. ⌜ r ≡ wcsIn (now (m .entry)) ⌝ }
 {

@@ -14,7 +14,7 @@ ghost use Rattle.record_lines.specs.Lines.{recordOf, textOf};
 ghost use Rattle.record.specs.Record.{solution, isOrder, lengthsFit, inputAnswer, lineSize, termsSize, recordSize, recordText, writtenAfter, recordDone, recordAnswer, recordedNumber};
 
 // The most rows that a fit uses.
-const MOST_ROWS: usize = 100;
+pub const MOST_ROWS: usize = 100;
 
 // The bytes of the lines that every record has, but for the digits of the rows used.
 const FIXED_SIZE: usize = 234;
