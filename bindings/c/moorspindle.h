@@ -116,4 +116,11 @@ uint32_t moorspindle_fit_sip(const double *px, size_t, const double *py, size_t,
         const double *xi, size_t, const double *eta, size_t, const double *snr, size_t,
         const double *wcs, size_t, uint32_t order,
         double *a, size_t, double *b, size_t, uint64_t *rows_used, double *sums, size_t);
+
+/* ---- the record: the solution's numbers in, the text out. write_record answers 1 2 3 5 7. a and b
+   have a number for each term of the order, dropped ones included; sums as fit_sip hands them
+   out. No record is longer than 1,065 bytes. */
+uint32_t moorspindle_write_record(uint64_t rows_used, const double *wcs, size_t, uint32_t order,
+        const double *a, size_t, const double *b, size_t, const double *sums, size_t,
+        uint8_t *text, size_t, uint64_t *written);
 #endif

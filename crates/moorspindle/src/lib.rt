@@ -20,6 +20,8 @@ ghost use Rattle.cd_run.specs.Run.{runAnswer, runNumber, maskAfter};
 ghost use Rattle.run_face.specs.Face.{testedAfter, onAfter};
 ghost use Rattle.cd_clip.specs.Clip.{clipNumber};
 ghost use Rattle.clip_face.specs.Face.{plateAfter, clipFace};
+ghost use Rattle.record.specs.Record.{recordText};
+ghost use Rattle.record_face.specs.Face.{solutionIn, recordFace};
 ghost use Rattle.cd_fit.specs.Fit.{fitAnswer};
 ghost use Rattle.cd_normal.specs.Normal.{normalSolved, unknownsOf, normalAnswer};
 ghost use Rattle.cd_residuals.specs.Residuals.{residualsX, residualsY, residualsPx, foundOf};
@@ -600,4 +602,30 @@ pub extern "C" fn moorspindle_fit_sip(
         (length (now (a .entry))) (length (now (b .entry))) (length (now (sums .entry))))) (now (sums .entry)) ⌝ }
 {
     sip_face::fit_sip(px, py, xi, eta, snr, wcs, order, a, b, rows_used, sums)
+}
+
+// The record of a solution from the front of the text, and how many bytes it has. The WCS is six numbers, the sums are three.
+#[no_mangle]
+pub extern "C" fn moorspindle_write_record(
+    rows_used: u64,
+    wcs: &[f64],
+    order: u32,
+    a: &[f64],
+    b: &[f64],
+    sums: &[f64],
+    text: &mut [u8],
+    written: &mut u64,
+) -> u32
+    ensures number { λ r. ⌜ r ≡ answerNumber
+        (recordFace «rows_used» (now (wcs .entry)) order (now (a .entry)) (now (b .entry)) (now (sums .entry)) (length (now (text .entry)))) ⌝ }
+    ensures text { λ r. ⌜ now (text .exit) ≡ lentAfter
+        (recordFace «rows_used» (now (wcs .entry)) order (now (a .entry)) (now (b .entry)) (now (sums .entry)) (length (now (text .entry))))
+        (recordText (solutionIn «rows_used» (now (wcs .entry)) order (now (a .entry)) (now (b .entry)) (now (sums .entry))))
+        (now (text .entry)) ⌝ }
+    ensures written { λ r. ⌜ now (written .exit) ≡ numberAfter
+        (recordFace «rows_used» (now (wcs .entry)) order (now (a .entry)) (now (b .entry)) (now (sums .entry)) (length (now (text .entry))))
+        (length (recordText (solutionIn «rows_used» (now (wcs .entry)) order (now (a .entry)) (now (b .entry)) (now (sums .entry)))))
+        (now (written .entry)) ⌝ }
+{
+    record_face::write_record(rows_used, wcs, order, a, b, sums, text, written)
 }
