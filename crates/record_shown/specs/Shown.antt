@@ -2,7 +2,6 @@
 use mathlib.Core.List.{List, [], _∷_, map}
 use lib.Dec.{T}
 use lib.Ieee.{Float, binary64, fits}
-use Rattle.domain.specs.declared.Answer.{Answer}
 use Rattle.cd_residuals.specs.declared.Wcs.{Wcs}
 use Rattle.sip_terms.specs.declared.Sip.{Sip}
 use Rattle.sip_terms.specs.Terms.{keptOf}

@@ -30,7 +30,7 @@ use denote.Struct.Laws as LL
 use denote.Triple.Entry.{onEntry}
 use denote.Triple.Spec.{Meets, tripleOf}
 use denote.Triple.Table.{entered}
-use denote.Triple.Walked.{says, Stays, walkOf, Walks, ends-at, walked, walk-meets}
+use denote.Triple.Walked.{says, Stays, walkOf, ends-at, walked, walk-meets}
 use Rattle.record_writer.specs.declared.Writer.{Writer}
 use Rattle.record_writer.proofs.Writer as T
 use Rattle.record_writer.proofs.Writer.Laws as T′

@@ -32,9 +32,8 @@ use denote.Struct.Rest.{own-shut}
 use denote.Triple.Entry.{onEntry}
 use denote.Triple.Spec.{Meets, tripleOf}
 use denote.Triple.Table.{entered}
-use denote.Triple.Walked.{says, Stays, stay-dropped, walkOf, goes-spent-slice, Walks, ends-at, walked, walk-meets}
+use denote.Triple.Walked.{says, Stays, stay-dropped, walkOf, goes-spent-slice, ends-at, walked, walk-meets}
 use denote.Exit.{no}
-use Rattle.record_writer.specs.declared.Writer.{Writer}
 use Rattle.record_writer.proofs.Writer as T
 use Rattle.record_writer.proofs.Writer.Laws as T′
 use Rattle.record_writer.proofs.Handed.{at-lft}
