@@ -2,15 +2,15 @@
 use mathlib.Core.Path.{_≡_, refl, sym, ap, _∙_}
 use mathlib.Core.Bool.{Bool, true, false, cond, not, _&&_, and-eq-true-iff}
 use mathlib.Core.List.{List, [], _∷_, _++_}
-use Prim.Native.Nat.{ℕ, suc, _+_, _*_, _≤_, _<_}
+use Prim.Native.Nat.{ℕ, _+_, _≤_, _<_}
 use native.Mathlib.Numerals.{add-one}
 use native.Mathlib.Omega.{arith}
 use lib.Dec.{ltb, leb, eqb}
 use lib.ListN.{length, getD, drop, length-append, drop-of-length-le}
 use lib.Seq.{drop-cons}
 use lib.Ieee.{Float, toBits, binary64}
-use borrow.Author.Tests.{ltb-true, ltb-false, leb-true, eqb-true, not-false}
-use Rattle.text.specs.Put.{Put, Room, decimalOf, decimalLine, floatLine}
+use borrow.Author.Tests.{ltb-false, leb-true, eqb-true, not-false}
+use Rattle.text.specs.Put.{Put, Room, decimalOf}
 use Rattle.text.proofs.Writing.{length-float-line, length-decimal-line, length-decimal-one, put-front}
 use Rattle.domain.specs.Answers.{roomFor, lentAfter}
 use Rattle.domain.proofs.Passed.{passed}
@@ -25,7 +25,7 @@ use Rattle.sip_terms.specs.Terms.{firstTerm, nextTerm, isKept, termCount}
 use Rattle.sip_terms.proofs.Places.{few-terms}
 use Rattle.record_lines.specs.declared.Head.{Head}
 use Rattle.record_lines.specs.declared.Axis.{Axis}
-use Rattle.record_lines.specs.Names.{aLetter, bLetter, formatName, rowsName, orderName, termName}
+use Rattle.record_lines.specs.Names.{aLetter, bLetter, termName}
 use Rattle.record_lines.specs.Lines.{Solution, numberLine, withLine, termLines, recordOf, textOf}
 use Rattle.record_lines.specs.Parts.{startLines, cdLines, headLines, numbersOf, axisLines, errorLines}
 use Rattle.record_lines.proofs.Laws.{text-append}

@@ -1,9 +1,8 @@
 -- Worked examples, each by computation.
 use mathlib.Core.Path.{_≡_, refl}
-use mathlib.Core.Bool.{true, false}
-use mathlib.Core.List.{List, [], _∷_}
+use mathlib.Core.Bool.{true}
+use mathlib.Core.List.{[], _∷_}
 use Prim.Native.Nat.{ℕ}
-use lib.ListN.{length}
 use lib.Ieee.{Float, nan, inf, binary64, ofBits, toBits, neg, lt, le, eq}
 use Rattle.floats.specs.Magnitude.{magnitudeOf}
 use Rattle.text.specs.Put.{hexFrom, decimalFrom, decimalOf, decimalLine, floatLine}
@@ -12,7 +11,6 @@ use Rattle.cd_plate.specs.Plate.{nothing, isCd}
 use Rattle.cd_residuals.specs.declared.Wcs.{Wcs}
 use Rattle.cd_residuals.specs.Residuals.{isWcs}
 use Rattle.sip_terms.specs.declared.Sip.{Sip}
-use Rattle.sip_terms.specs.declared.Term.{Term}
 use Rattle.sip_terms.specs.Terms.{countTo, leastCoefficient}
 use Rattle.record_lines.specs.Lines.{Solution, termLines, recordOf, textOf}
 use Rattle.record.specs.declared.Recorded.the-variants as recorded

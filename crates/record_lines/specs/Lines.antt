@@ -1,16 +1,18 @@
+<<<<<<< HEAD
 -- A record as the list of its lines, to be held beside the whole record of the scope. Definitions only.
 use mathlib.Core.Bool.{Bool, true, false, cond}
+=======
+-- A record as the list of its lines, to be held beside the whole record of document 01. Definitions only.
+use mathlib.Core.Bool.{Bool, true, false}
+>>>>>>> 333e3b383c7d922e2e4516b2e950dc281989408d
 use mathlib.Core.List.{List, [], _∷_, _++_}
 use Prim.Native.Nat.{ℕ}
-use lib.ListN.{take}
 use lib.Ieee.{Float, toBits, binary64}
 use Rattle.text.specs.Put.{floatLine, decimalLine}
 use Rattle.cd_residuals.specs.declared.Wcs.{Wcs}
 use Rattle.sip_terms.specs.declared.Sip.{Sip}
 use Rattle.sip_terms.specs.declared.Term.{Term}
 use Rattle.sip_terms.specs.Terms.{firstTerm, nextTerm, isKept}
-use Rattle.record_lines.specs.declared.Head.{Head}
-use Rattle.record_lines.specs.declared.Axis.{Axis}
 use Rattle.record_lines.specs.Names.{formatName, rowsName, crpix1Name, crpix2Name, cd11Name, cd12Name, cd21Name, cd22Name, orderName, linearName, rmsName, wrmsName, aLetter, bLetter, termName}
 
 -- what a record shows: rows used and errors of a fit, its reference pixel and CD, its order, and one coefficient for each term of each axis

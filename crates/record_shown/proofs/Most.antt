@@ -1,4 +1,4 @@
--- No record has more than 1,065 bytes, so a caller who lends so many is never refused for room. Assumes nothing.
+-- No record has more than `mostBytes` bytes, so a caller who lends so many is never refused for room. Assumes nothing.
 use mathlib.Core.Path.{_≡_, refl}
 use mathlib.Core.Bool.{Bool, true, false, cond}
 use mathlib.Core.List.{List, [], _∷_}
@@ -17,6 +17,7 @@ use Rattle.sip_terms.specs.Terms.{isKept}
 use Rattle.record_lines.specs.Lines.{Solution}
 use Rattle.record.specs.Record.{recordText, inputAnswer, recordDone, termsSize}
 use Rattle.record.proofs.Laws.{checked, record-size}
+use Rattle.record_shown.specs.Shown.{mostBytes}
 use Rattle.record_shown.proofs.Same.{Passed}
 
 -- 0 to 100 have at most three digits
@@ -47,15 +48,15 @@ terms-most (c ∷ cs) = go (isKept c) (terms-most cs)
     go true h = omega (arith, h)
     go false h = omega (arith, h)
 
-pub record-most : (s : Solution) → Passed s → length (recordText s) ≤ 1065
+pub record-most : (s : Solution) → Passed s → length (recordText s) ≤ mostBytes
 record-most s p =
     let k = checked (s .fit) (s .wcs) (s .order) (length (s .a)) (length (s .b)) p in
     omega (arith, record-size s (omega (arith, k .low)), three-digits (s .fit .«rows_used») (k .few-rows), terms-most (s .a), terms-most (s .b), k .few-a, k .few-b)
 
 -- with so much room the tests of the input decide alone
-pub room-enough : (s : Solution) (room : ℕ) → 1065 ≤ room → recordDone s room ≡ inputAnswer (s .fit) (s .wcs) (s .order) (length (s .a)) (length (s .b))
+pub room-enough : (s : Solution) (room : ℕ) → mostBytes ≤ room → recordDone s room ≡ inputAnswer (s .fit) (s .wcs) (s .order) (length (s .a)) (length (s .b))
 room-enough s room h = go (inputAnswer (s .fit) (s .wcs) (s .order) (length (s .a)) (length (s .b))) (record-most s)
   where
-    go : (a : Answer) → (a ≡ answer.Done → length (recordText s) ≤ 1065) → first a (roomFor (length (recordText s)) room) ≡ a
+    go : (a : Answer) → (a ≡ answer.Done → length (recordText s) ≤ mostBytes) → first a (roomFor (length (recordText s)) room) ≡ a
     go answer.Done m = rw (le-ltb room (length (recordText s)) (omega (arith, h, m refl)))
     go (answer.Refused why) m = refl

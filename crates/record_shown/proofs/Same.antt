@@ -1,17 +1,15 @@
 -- Two records are equal only if they show equal numbers, and a record shows no more than `shownOf` keeps. Assumes nothing.
 use mathlib.Core.Path.{_≡_, refl, sym, ap, _∙_}
-use mathlib.Core.Bool.{Bool, true, false, not, _&&_, cond, and-eq-true-iff}
+use mathlib.Core.Bool.{Bool, true, false, cond}
 use mathlib.Core.List.{List, [], _∷_, _++_, map}
-use Prim.Native.Nat.{ℕ, _+_, _≤_}
+use Prim.Native.Nat.{ℕ, _+_}
 use native.Mathlib.Omega.{arith}
 use lib.ListN.{length}
 use lib.Ieee.{Float, ofBits, lt}
-use borrow.Author.Tests.{ltb-false, eqb-true}
 use Rattle.floats.specs.Magnitude.{magnitudeOf}
 use Rattle.text.specs.Put.{floatLine}
 use Rattle.domain.specs.declared.Answer.the-variants as answer
 use Rattle.cd_plate.specs.Plate.{nothing}
-use Rattle.cd_residuals.specs.declared.Wcs.{Wcs}
 use Rattle.sip_terms.specs.declared.Sip.{Sip}
 use Rattle.sip_terms.specs.declared.Term.{Term}
 use Rattle.sip_terms.specs.Terms.{firstTerm, nextTerm, termAt, termCount, isKept, keptOf}
@@ -21,7 +19,7 @@ use Rattle.record_lines.specs.Parts.{errorLines}
 use Rattle.record_lines.proofs.Laws.{text-append}
 use Rattle.record.specs.Record.{recordText, inputAnswer}
 use Rattle.record.proofs.Laws.{Checked, checked}
-use Rattle.record_shown.specs.Shown.{shownOf, AreF64, FitF64, WcsF64, SolutionF64}
+use Rattle.record_shown.specs.Shown.{shownOf, FitF64, SolutionF64}
 use Rattle.record_shown.proofs.Front.{number-same, decimal-line-same}
 use Rattle.record_shown.proofs.Terms.{Foreign, foreign-terms, terms-same}
 

@@ -1,15 +1,15 @@
 -- The lines of the coefficients at the front of two equal texts: they show equal coefficients. Assumes nothing.
 use mathlib.Core.Path.{_≡_, refl, sym, ap, _∙_}
-use mathlib.Core.Bool.{Bool, true, false, cond}
+use mathlib.Core.Bool.{Bool, true, false}
 use mathlib.Core.List.{List, [], _∷_, _++_, append-assoc, map}
-use Prim.Native.Nat.{ℕ, zero, suc, _+_, _-_, _<_}
+use Prim.Native.Nat.{ℕ, suc, _+_, _<_}
 use native.Mathlib.Omega.{arith}
 use lib.ListN.{length, getD}
-use lib.Ieee.{Float, toBits, binary64}
-use Rattle.text.specs.Put.{hexFrom, floatLine}
+use lib.Ieee.{Float}
+use Rattle.text.specs.Put.{floatLine}
 use Rattle.cd_plate.specs.Plate.{nothing}
 use Rattle.sip_terms.specs.declared.Term.{Term}
-use Rattle.sip_terms.specs.Terms.{nextTerm, termAt, countTo, isKept, keptOf}
+use Rattle.sip_terms.specs.Terms.{nextTerm, termAt, isKept, keptOf}
 use Rattle.sip_terms.proofs.Places.{stands}
 use Rattle.record_lines.specs.Names.{termName}
 use Rattle.record_lines.specs.Lines.{numberLine, withLine, termLines, textOf}

@@ -1,8 +1,8 @@
 -- What a record shows of a solution. Definitions only.
 use mathlib.Core.List.{List, [], _∷_, map}
+use Prim.Native.Nat.{ℕ}
 use lib.Dec.{T}
 use lib.Ieee.{Float, binary64, fits}
-use Rattle.domain.specs.declared.Answer.{Answer}
 use Rattle.cd_residuals.specs.declared.Wcs.{Wcs}
 use Rattle.sip_terms.specs.declared.Sip.{Sip}
 use Rattle.sip_terms.specs.Terms.{keptOf}
@@ -42,3 +42,7 @@ pub record SolutionF64 (s : Solution) : Type 0 where
   pub of-wcs : WcsF64 (s .wcs)
   pub of-a : AreF64 (s .a)
   pub of-b : AreF64 (s .b)
+
+-- the bytes of the longest record: 100 rows, order 5, every coefficient kept
+abbrev pub mostBytes : ℕ
+mostBytes = 1065

@@ -15,7 +15,7 @@ use base.Fml.{Lft, Share, ftrue, flft}
 use prog.Wp.{Heap}
 use ghost.Atoms.{Atoms, sem}
 use contract.Monad.{fact}
-use types.Kit.{Given, ‵, raw, some, later, _⊛_, _$_, _∵_, !, qed, move, use1, split, join, pick, rewrite, fjoin, frame, await, updating, now as at-once, done}
+use types.Kit.{Given, ‵, raw, some, later, _⊛_, _$_, _∵_, !, qed, move, use1, split, pick, rewrite, fjoin, frame, await, updating, now as at-once, done}
 use denote.Laws.{Is}
 use denote.Ref.{NamedLft, now}
 use denote.Steps.{only, owned, heard, nothing}

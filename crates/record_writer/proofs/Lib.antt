@@ -1,4 +1,5 @@
+pub mod Texts
 pub mod Held
-pub mod Again
+pub mod Lent
 pub mod Thin
 pub mod Handed

@@ -47,8 +47,8 @@ use Rattle.record_writer.specs.declared.Writer.{Writer}
 use Rattle.record_writer.specs.Wrote.{wrote}
 use Rattle.record_writer.proofs.Writer as T
 use Rattle.record_writer.proofs.Writer.Laws as T′
-use Rattle.record_writer.proofs.Held.{writer-spent, writer-spent-goes}
-use Rattle.record_writer.proofs.Again.{LentAgain, lends-again, comes-back}
+use Rattle.record_writer.proofs.Held.{handed-on, handed-on-goes}
+use Rattle.record_writer.proofs.Lent.{Away, lend-on, take-back}
 
 module _ (P : Declared) (Asks : List ℕ → ℕ → P .D → Type 0) (text : P .D → List ℕ) where
   -- the part's type, which a function leaves as it was passed
@@ -144,7 +144,7 @@ module _ (P : Declared) (L : LL.Laws P) (facts : Plains (fields P)) (called : Na
   R = Part P Asks text
 
   abbrev stayed : Stays (thin P Asks text .signature .params) (thin P Asks text .kept)
-  stayed = (writer-spent, (stay-none (λ _. R) yes, tt))
+  stayed = (handed-on, (stay-none (λ _. R) yes, tt))
 
   module _ {M : Type 1} (𝓤 : URA M) (H : Heap 𝓤) (A : Atoms 𝓤) (W : Given 𝓤 H A) (κ : Lft) (q : Share) (b o : ℕ) (γ : GName) (ys : List ℕ) (n : ℕ) (d : P .D) (n-fits : n < 2 ^ 64) (d-is : Is (row P) d (LL.vals P L d)) where
     abbrev α : NamedLft
@@ -219,7 +219,7 @@ module _ (P : Declared) (L : LL.Laws P) (facts : Plains (fields P)) (called : Na
           move ! (19 ∷ []) $ fsplit ! $ use1 W (given (mach n ∷ [] ≡ mach n ∷ []) (‵ (all-own (T.the-type α .parts) (T′.the-laws α) (x γ ys, (n, tt))))) (own-open 𝓤 H A W (T.the-type α) (T′.the-laws α) (x γ ys, (n, tt)) (mach n)) $ learn ! (λ _. fsplit ! $
           -- the slice is lent again, for a lifetime ν of the call
           move ! (21 ∷ []) $ split ! $ lft-new ! tt (λ ν. move ! (3 ∷ 1 ∷ []) $
-          use2 W (later (some (λ (δ : GName). ‵ (MutSlice (named 0) (ν ∷ []) u8 .own (x δ ys) (s ∷ [])) ⊛ ‵ (LentAgain u8 κ (ν ∷ []) q γ b o δ ys)))) (lends-again u8 κ (ν ∷ []) q γ b o 𝓤 H A W (named 0) (named 0) ys) $ await ! tt $ pick ! (λ δ. split ! $
+          use2 W (later (some (λ (δ : GName). ‵ (MutSlice (named 0) (ν ∷ []) u8 .own (x δ ys) (s ∷ [])) ⊛ ‵ (Away κ (ν ∷ []) q γ b o ys δ)))) (lend-on κ (ν ∷ []) q γ b o ys 𝓤 H A W) $ await ! tt $ pick ! (λ δ. split ! $
           move ! (2 ∷ 0 ∷ []) $ use2 W (raw (Inner P Asks text 𝓤 H A .pre (to-inner ν δ))) (goes ν δ asked) $
           calls-at ! fm (Inner P Asks text 𝓤 H A) known (to-inner ν δ) (and-then ! (load ! (from ! (stop !)) (look ! 9 refl)) (and-then ! (load ! (from ! (stop !)) (look ! 15 refl)) (and-then ! (load ! (from ! (stop !)) (look ! 17 refl)) (no-more !)))) (λ w.
           use1 W (later (some (λ (r : ℕ). ((‵ (flft (ν ∷ []) fullShare) ⊛ ‵ ftrue) ⊛ ‵ (usize .own r (w ∷ []))) ⊛ raw (ensured 𝓤 H A (inner P Asks text) (inner-clauses P Asks text 𝓤) (ν ∷ [], tt) (x δ ys, (n, (d, tt))) tt r)))) (id⊢ 𝓤 _) $ await ! tt $ pick ! (λ r.
@@ -230,7 +230,7 @@ module _ (P : Declared) (L : LL.Laws P) (facts : Plains (fields P)) (called : Na
           land ! (from ! (stop !)) (init ! 16 refl (uint-lawful 𝓤 H A W w64 .typed r _ is .0)) $ rewrite ! 16 (λ (u : Val). ‵ (fat fullShare (tyInt w64) l₄ 0 u)) (ap only (is .0)) refl $
           -- the lifetime is ended, and the slice comes back at that list
           move ! (1 ∷ []) $ split ! $ lft-end ! tt $ move ! (0 ∷ 5 ∷ 3 ∷ []) $
-          use3 W (later (‵ (MutSlice (named 0) κ u8 .own (x γ (zs .0)) (s ∷ [])) ⊛ ‵ (flft κ q))) (comes-back u8 κ (ν ∷ []) q γ b o 𝓤 H A W (named 0) (named 0) ys δ (zs .0) room l) $ await ! tt $ split ! $
+          use3 W (later (‵ (MutSlice (named 0) κ u8 .own (x γ (zs .0)) (s ∷ [])) ⊛ ‵ (flft κ q))) (take-back κ (ν ∷ []) q γ b o ys 𝓤 H A W δ (zs .0) room l) $ await ! tt $ split ! $
           -- [what buf's borrow owns; the token; …; _8; …; _7; …; _6; …; _5; …; _4; …; _3; …; _2; …; _1; …; room for _0; …]
           assigns ! (addr ! (from ! (fld ! refl (fld ! refl (hop ! (look-in ! 22 (sub ! 0 refl (sub ! 0 refl (whole !)))) (stop !)))))) (from ! (stop !)) (init ! 10 refl (tt, tt)) $
           assigns ! (agg ! (and-then ! (load ! (from ! (stop !)) (look ! 10 refl)) (and-then ! (load ! (from ! (fld ! refl (fld ! refl (stop !)))) (look-in ! 22 (sub ! 1 refl (sub ! 0 refl (whole !))))) (no-more !)))) (from ! (stop !)) (init ! 8 refl (tt, (tt, (record { fits = room .0 }, tt)))) $
@@ -249,5 +249,5 @@ module _ (P : Declared) (L : LL.Laws P) (facts : Plains (fields P)) (called : Na
 
     pub thin-meets : (𝓣 : Tables 𝓤 H) → Triple 𝓤 (𝓣 .C called) (Inner P Asks text 𝓤 H A) → Meets 𝓤 H A (thin P Asks text .signature) (WpFn 𝓤 H (𝓣 .C) (𝓣 .Λ) (thin-function P called)) (closing 𝓤 H A (thin P Asks text) (thin-clauses P Asks text 𝓤))
     thin-meets 𝓣 known =
-        walk-meets 𝓤 H A (thin P Asks text) stayed W (writer-spent-goes 𝓤 H A W, (goes-none 𝓤 H A W 1 (λ _. R) yes (λ κs x f. refl), tt)) (thin-clauses P Asks text 𝓤)
+        walk-meets 𝓤 H A (thin P Asks text) stayed W (handed-on-goes 𝓤 H A W, (goes-none 𝓤 H A W 1 (λ _. R) yes (λ κs x f. refl), tt)) (thin-clauses P Asks text 𝓤)
         (WpFn 𝓤 H (𝓣 .C) (𝓣 .Λ) (thin-function P called)) (WpFn-mono 𝓤 H (W .laws) 𝓣 (thin-function P called)) (walks (𝓣 .C) (𝓣 .Λ) (fmOf 𝓤 H (W .laws) 𝓣) known)

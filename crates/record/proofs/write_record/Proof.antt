@@ -1,38 +1,28 @@
+-- `record::write_record` meets its contract: a refusal keeps the text, and an input that passed its tests is small. Assumes nothing.
 use mathlib.Core.Path.{refl, sym, _∙_}
 use Rattle.record.proofs.Laws.{checked}
 use borrow.Author.Needs.{needs}
 use Rattle.record.proofs.write_record.Statement.{statement}
 use Rattle.record.proofs.write_record.Tie as tie
-use Rattle.record.proofs.write_record.Reads as reads
-use Rattle.record.proofs.write_record.Lts as lts
-use Rattle.record.proofs.check_input.Reads as check-input-reads
-use Rattle.record.proofs.write_checked.Reads as write-checked-reads
 
--- src/lib.rt:151:11
 check-input-requires : tie.Need-check-input-requires
 check-input-requires c κs = search needs
 
--- src/lib.rt:152:25
 enum-known-why : tie.Need-enum-known-why
 enum-known-why c = search needs
 
--- src/lib.rt:153:62
 enum-told : tie.Need-enum-told
 enum-told c = search needs
 
--- src/lib.rt:153:25
 write-checked-requires : tie.Need-write-checked-requires
 write-checked-requires c κs = let k = checked _ _ _ _ _ (sym (c .before .before .before .check-input .ensures) ∙ c .before .enum-told .given .1) in (k .few-a, k .few-b, k .low)
 
--- src/lib.rt:145:1
 returns : tie.Need-returns
 returns c = rw (← c .before .before .before .check-input .ensures, c .before .why .given .1) (refl, refl)
 
--- src/lib.rt:145:1
 same-length : tie.Need-same-length
 same-length c = search needs
 
--- src/lib.rt:145:1
 returns-2 : tie.Need-returns-2
 returns-2 c = let w = c .before .before .write-checked .ensures in rw (← c .before .before .before .before .before .before .check-input .ensures, c .before .before .before .before .enum-told .given .1) (w .0, w .1)
 

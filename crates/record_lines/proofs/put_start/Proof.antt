@@ -1,55 +1,42 @@
+-- `record_lines::put_start` meets its contract: four lines, one after the other. Assumes nothing.
 use Rattle.record_lines.specs.Parts.{startLines}
 use Rattle.record_lines.specs.Lines.{textOf}
 use Rattle.text.proofs.Writing.{then, put-none, room-first, room-next}
 use borrow.Author.Needs.{needs}
 use Rattle.record_lines.proofs.put_start.Statement.{statement}
 use Rattle.record_lines.proofs.put_start.Tie as tie
-use Rattle.record_lines.proofs.put_start.Reads as reads
-use Rattle.record_lines.proofs.put_start.Lts as lts
-use Rattle.text.proofs.put_decimal_line.Reads as put-decimal-line-reads
-use Rattle.text.proofs.put_float_line.Reads as put-float-line-reads
 
--- src/lib.rt:53:45
 slice-aggregate-put-decimal-line : tie.Need-slice-aggregate-put-decimal-line
 slice-aggregate-put-decimal-line c = search needs
 
--- src/lib.rt:53:9
 put-decimal-line-requires : tie.Need-put-decimal-line-requires
 unfolding textOf startLines
 put-decimal-line-requires c κs = room-first _ (c .before .before .before .before .pre)
 
--- src/lib.rt:54:44
 slice-aggregate-put-decimal-line-2 : tie.Need-slice-aggregate-put-decimal-line-2
 slice-aggregate-put-decimal-line-2 c = search needs
 
--- src/lib.rt:54:9
 put-decimal-line-requires-2 : tie.Need-put-decimal-line-requires-2
 unfolding textOf startLines
 put-decimal-line-requires-2 c κs = room-first _ (room-next (c .before .before .before .before .before .before .before .before .before .pre) (c .before .before .before .before .put-decimal-line .ensures))
 
--- src/lib.rt:55:42
 slice-aggregate-put-float-line : tie.Need-slice-aggregate-put-float-line
 slice-aggregate-put-float-line c = search needs
 
--- src/lib.rt:55:9
 put-float-line-requires : tie.Need-put-float-line-requires
 unfolding textOf startLines
 put-float-line-requires c κs = room-first _ (room-next (room-next (c .before .before .before .before .before .before .before .before .before .before .before .before .before .before .pre) (c .before .before .before .before .before .before .before .before .before .put-decimal-line .ensures)) (c .before .before .before .before .put-decimal-line2 .ensures))
 
--- src/lib.rt:56:34
 slice-aggregate-put-float-line-2 : tie.Need-slice-aggregate-put-float-line-2
 slice-aggregate-put-float-line-2 c = search needs
 
--- src/lib.rt:56:5
 put-float-line-requires-2 : tie.Need-put-float-line-requires-2
 unfolding textOf startLines
 put-float-line-requires-2 c κs = room-first _ (room-next (room-next (room-next (c .before .before .before .before .before .before .before .before .before .before .before .before .before .before .before .before .before .before .before .pre) (c .before .before .before .before .before .before .before .before .before .before .before .before .before .before .put-decimal-line .ensures)) (c .before .before .before .before .before .before .before .before .before .put-decimal-line2 .ensures)) (c .before .before .before .before .put-float-line .ensures))
 
--- src/lib.rt:48:1
 same-length : tie.Need-same-length
 same-length c = search needs
 
--- src/lib.rt:48:1
 returns : tie.Need-returns
 unfolding textOf startLines
 returns c = then (c .before .before .before .before .before .before .before .before .before .before .before .before .before .before .before .before .before .put-decimal-line .ensures) (then (c .before .before .before .before .before .before .before .before .before .before .before .before .put-decimal-line2 .ensures) (then (c .before .before .before .before .before .before .before .put-float-line .ensures) (then (c .before .before .put-float-line2 .ensures) put-none)))

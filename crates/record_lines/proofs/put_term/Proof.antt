@@ -1,51 +1,38 @@
+-- `record_lines::put_term` meets its contract: a kept coefficient has its line, and a dropped one has no text. Assumes nothing.
 use mathlib.Core.Path.{sym, _∙_}
 use Rattle.record_lines.proofs.Laws.{line-kept, line-dropped}
 use Rattle.text.proofs.Writing.{put-none, same-room, same-text}
 use borrow.Author.Needs.{needs}
 use Rattle.record_lines.proofs.put_term.Statement.{statement}
 use Rattle.record_lines.proofs.put_term.Tie as tie
-use Rattle.record_lines.proofs.put_term.Reads as reads
-use Rattle.record_lines.proofs.put_term.Lts as lts
-use Rattle.sip_terms.proofs.is_kept.Reads as is-kept-reads
-use Rattle.text.proofs.put_float_line.Reads as put-float-line-reads
 
--- src/lib.rt:85:8
 is-kept-requires : tie.Need-is-kept-requires
 is-kept-requires c κs = search needs
 
--- src/lib.rt:86:40
 cast-t8 : tie.Need-cast-t8
 cast-t8 c = search needs
 
--- src/lib.rt:86:35
 add-t9 : tie.Need-add-t9
 add-t9 c = search needs
 
--- src/lib.rt:86:62
 cast-t10 : tie.Need-cast-t10
 cast-t10 c = search needs
 
--- src/lib.rt:86:57
 add-t11 : tie.Need-add-t11
 add-t11 c = search needs
 
--- src/lib.rt:87:46
 slice-aggregate-put-float-line : tie.Need-slice-aggregate-put-float-line
 slice-aggregate-put-float-line c = search needs
 
--- src/lib.rt:87:9
 put-float-line-requires : tie.Need-put-float-line-requires
 put-float-line-requires c κs = same-room (line-kept _ _ _ (sym (c .before .before .before .before .before .is-kept .ensures) ∙ c .before .before .before .before .if1 .taken)) (c .before .before .before .before .before .before .before .pre .1)
 
--- src/lib.rt:87:9
 same-length : tie.Need-same-length
 same-length c = search needs
 
--- src/lib.rt:87:9
 returns : tie.Need-returns
 returns c = same-text (line-kept _ _ _ (sym (c .before .before .before .before .before .before .before .before .is-kept .ensures) ∙ c .before .before .before .before .before .before .before .if1 .taken)) (c .before .before .put-float-line .ensures)
 
--- src/lib.rt:81:1
 returns-2 : tie.Need-returns-2
 returns-2 c = same-text (line-dropped _ _ _ (sym (c .before .is-kept .ensures) ∙ c .if1 .left)) put-none
 

@@ -1,8 +1,9 @@
+-- `record_lines::put_terms` meets its contract: the loop's invariant: what is put, and the lines of the coefficients that are left, come to the whole; and the next term is at hand. Assumes nothing.
 use borrow.Author.Needs.{needs}
 use native.Mathlib.Omega.{arith}
 use lib.ListN.{length, drop}
 use Prim.Native.Nat.{_≤_, _-_}
-use mathlib.Core.Path.{_≡_, sym, ap, _∙_}
+use mathlib.Core.Path.{_≡_}
 use Rattle.sip_terms.proofs.Places.{low-term, term-more}
 use Rattle.sip_terms.specs.Terms.{firstTerm, termAt}
 use Rattle.record_lines.specs.Lines.{textOf, termLines}
@@ -10,11 +11,6 @@ use Rattle.record_lines.proofs.Laws.{terms-more, terms-none}
 use Rattle.text.proofs.Writing.{Going, going-start, going-step, going-end, going-room, room-first, same-rest}
 use Rattle.record_lines.proofs.put_terms.Statement.{statement}
 use Rattle.record_lines.proofs.put_terms.Tie as tie
-use Rattle.record_lines.proofs.put_terms.Reads as reads
-use Rattle.record_lines.proofs.put_terms.Lts as lts
-use Rattle.record_lines.proofs.put_term.Reads as put-term-reads
-use Rattle.sip_terms.proofs.Term.first.Reads as first-reads
-use Rattle.sip_terms.proofs.Term.next.Reads as next-reads
 
 abbrev Inv-loop : tie.InvT-loop
 Inv-loop buf₀ at letter cs m₀ t₀ i₀ buf m t i = Going buf₀ at (textOf (termLines letter firstTerm cs)) buf m (textOf (termLines letter t (drop i cs))) × (t ≡ termAt i) × (i ≤ length cs)
@@ -22,48 +18,37 @@ Inv-loop buf₀ at letter cs m₀ t₀ i₀ buf m t i = Going buf₀ at (textOf 
 abbrev μ-loop : tie.MeasureT-loop
 μ-loop buf₀ at letter cs m₀ t₀ i₀ buf m t i = length cs - i
 
--- src/lib.rt:98:9
 first-requires : tie.Need-first-requires Inv-loop μ-loop
 first-requires c κs = search needs
 
--- src/lib.rt:100:5
 loop-holds : tie.Need-loop-holds Inv-loop μ-loop
 unfolding termAt
 loop-holds c = (rw (c .first .ensures) going-start, c .first .ensures, omega arith)
 
--- src/lib.rt:101:41
 mul-put-term : tie.Need-mul-put-term Inv-loop μ-loop
 mul-put-term c = search needs
 
--- src/lib.rt:101:41
 shared-slice-read-put-term : tie.Need-shared-slice-read-put-term Inv-loop μ-loop
 shared-slice-read-put-term c = search needs
 
--- src/lib.rt:101:9
 put-term-requires : tie.Need-put-term-requires Inv-loop μ-loop
 put-term-requires c κs = let l = c .before .before .before .loop in (omega (arith, low-term (l .t) (l .i) (l .inv .1) (omega arith)), room-first _ (going-room (c .before .before .before .before .before .before .before .pre .1) (same-rest (terms-more _ _ _ _ _ (c .before .before .loop-test .taken)) (l .inv .0))))
 
--- src/lib.rt:102:9
 next-requires : tie.Need-next-requires Inv-loop μ-loop
 next-requires c κs = let l = c .before .before .before .before .before .before .loop in omega (arith, low-term (l .t) (l .i) (l .inv .1) (omega arith))
 
--- src/lib.rt:103:9
 add-i : tie.Need-add-i Inv-loop μ-loop
 add-i c = search needs
 
--- src/lib.rt:100:5
 loop-less : tie.Need-loop-less Inv-loop μ-loop
 loop-less c = search needs
 
--- src/lib.rt:100:5
 loop-again : tie.Need-loop-again Inv-loop μ-loop
 loop-again c = let l = c .before .before .before .before .before .before .before .loop in (rw (c .next .ensures) (going-step (same-rest (terms-more _ _ _ _ _ (c .before .before .before .before .before .before .loop-test .taken)) (l .inv .0)) (c .before .before .before .put-term .ensures)), term-more (l .t) (c .next .result) (l .i) (l .inv .1) (c .next .ensures), omega arith)
 
--- src/lib.rt:93:1
 same-length : tie.Need-same-length Inv-loop μ-loop
 same-length c = c .before .loop .inv .0 .long
 
--- src/lib.rt:93:1
 returns : tie.Need-returns Inv-loop μ-loop
 returns c = going-end (same-rest (terms-none _ _ _ _ (c .loop-test .left)) (c .before .loop .inv .0))
 

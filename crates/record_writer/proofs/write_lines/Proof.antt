@@ -41,8 +41,6 @@ use Rattle.text.proofs.Writing.{then, room-first, room-next, put-length}
 use Rattle.sip_terms.specs.declared.Sip.{Sip}
 use Rattle.sip_terms.proofs.Sip as S
 use Rattle.sip_terms.proofs.Sip.Laws as S′
-use Rattle.record_lines.specs.Lines.{textOf}
-use Rattle.record_lines.specs.Parts.{headLines, axisLines, errorLines}
 use Rattle.record_lines.specs.declared.Head.{Head}
 use Rattle.record_lines.proofs.Head as Hd
 use Rattle.record_lines.proofs.Head.Laws as Hd′
@@ -52,6 +50,7 @@ use Rattle.record_lines.proofs.Axis.Laws as X′
 use Rattle.record_writer.specs.declared.Writer.{Writer}
 use Rattle.record_writer.specs.Wrote.{wrote, partsText}
 use Rattle.record_writer.proofs.Writer as T
+use Rattle.record_writer.proofs.Texts.{head-text, head-asks, axis-text, axis-asks, errors-text, errors-asks}
 use Rattle.record_writer.proofs.Thin.{Thin}
 use Rattle.record_writer.proofs.Handed.{at-lft, Has, typed, thin-to, thin-asks, thin-hands}
 use Rattle.record_writer.proofs.new.Symbol as new-code
@@ -70,25 +69,6 @@ use Rattle.record_writer.proofs.write_lines.Key.{name as #write-lines}
 use Rattle.record_writer.proofs.write_lines as write-lines
 use Rattle.record_writer.proofs.write_lines.Statement as stated
 use Rattle.record_writer.proofs.write_lines.Code as code
-
--- what each part's function asks of a slice, a place and its part, and the text that it writes
-abbrev head-text : Head → List ℕ
-head-text d = textOf (headLines d)
-
-abbrev head-asks : List ℕ → ℕ → Head → Type 0
-head-asks l n d = Fits l n (head-text d)
-
-abbrev axis-text : Axis → List ℕ
-axis-text d = textOf (axisLines d)
-
-abbrev axis-asks : List ℕ → ℕ → Axis → Type 0
-axis-asks l n d = (d .terms ≤ 18) × Fits l n (axis-text d)
-
-abbrev errors-text : Sip → List ℕ
-errors-text d = textOf (errorLines d)
-
-abbrev errors-asks : List ℕ → ℕ → Sip → Type 0
-errors-asks l n d = Fits l n (errors-text d)
 
 abbrev stayed : Stays (write-lines.ended .signature .params) (write-lines.ended .kept)
 stayed = (gave-slice (0 ∷ []) tt (plain (λ _. u8)), (stay-none (λ _. Hd.the-row) yes, (stay-none (λ _. X.the-row) yes, (stay-none (λ _. X.the-row) yes, (stay-none (λ _. S.the-row) yes, tt)))))

@@ -1,3 +1,4 @@
+-- `record_lines::Axis::of` meets its contract: after i numbers the first i stand in both lists. Assumes nothing.
 use borrow.Author.Needs.{needs}
 use native.Mathlib.Omega.{arith}
 use Prim.Native.Nat.{_≤_, _-_}
@@ -7,8 +8,6 @@ use lib.ListN.{length, length-set, take}
 use Rattle.record_lines.proofs.Laws.{copied-more}
 use Rattle.record_lines.proofs.Axis.of.Statement.{statement}
 use Rattle.record_lines.proofs.Axis.of.Tie as tie
-use Rattle.record_lines.proofs.Axis.of.Reads as reads
-use Rattle.record_lines.proofs.Axis.of.Lts as lts
 
 abbrev Inv-loop : tie.InvT-loop
 Inv-loop letter cs numbers₀ i₀ numbers i = (take i numbers ≡ take i cs) × (length numbers ≡ 18) × (i ≤ length cs)
@@ -16,39 +15,30 @@ Inv-loop letter cs numbers₀ i₀ numbers i = (take i numbers ≡ take i cs) ×
 abbrev μ-loop : tie.MeasureT-loop
 μ-loop letter cs numbers₀ i₀ numbers i = length cs - i
 
--- src/lib.rt:35:9
 loop-holds : tie.Need-loop-holds Inv-loop μ-loop
 loop-holds c = (refl, search needs, omega arith)
 
--- src/lib.rt:36:26
 mul-numbers : tie.Need-mul-numbers Inv-loop μ-loop
 mul-numbers c = search needs
 
--- src/lib.rt:36:26
 shared-slice-read-numbers : tie.Need-shared-slice-read-numbers Inv-loop μ-loop
 shared-slice-read-numbers c = search needs
 
--- src/lib.rt:36:13
 mul-numbers-2 : tie.Need-mul-numbers-2 Inv-loop μ-loop
 mul-numbers-2 c = search needs
 
--- src/lib.rt:36:13
 array-write-numbers : tie.Need-array-write-numbers Inv-loop μ-loop
 array-write-numbers c = search needs
 
--- src/lib.rt:37:13
 add-i : tie.Need-add-i Inv-loop μ-loop
 add-i c = search needs
 
--- src/lib.rt:35:9
 loop-less : tie.Need-loop-less Inv-loop μ-loop
 loop-less c = search needs
 
--- src/lib.rt:35:9
 loop-again : tie.Need-loop-again Inv-loop μ-loop
 loop-again c = let l = c .before .before .loop in (copied-more (l .numbers) (c .before .before .before .args .cs .now) (l .i) _ (omega arith) (omega arith) (l .inv .0), length-set (l .numbers) (l .i) _ ∙ l .inv .1, omega arith)
 
--- src/lib.rt:29:5
 returns : tie.Need-returns Inv-loop μ-loop
 returns c = let l = c .before .loop in (refl, omega arith, l .inv .0 ∙ take-all _ _ (c .loop-test .left))
 
