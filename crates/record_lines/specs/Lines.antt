@@ -1,10 +1,5 @@
-<<<<<<< HEAD
 -- A record as the list of its lines, to be held beside the whole record of the scope. Definitions only.
-use mathlib.Core.Bool.{Bool, true, false, cond}
-=======
--- A record as the list of its lines, to be held beside the whole record of document 01. Definitions only.
 use mathlib.Core.Bool.{Bool, true, false}
->>>>>>> 333e3b383c7d922e2e4516b2e950dc281989408d
 use mathlib.Core.List.{List, [], _∷_, _++_}
 use Prim.Native.Nat.{ℕ}
 use lib.Ieee.{Float, toBits, binary64}
