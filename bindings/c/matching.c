@@ -1,20 +1,18 @@
 /* From quads to a score, from C: each answer, and every byte of all that is lent, beside what it
    must be. */
-#include "moorspindle.h"
-
-#include <inttypes.h>
 #include <math.h>
-#include <stdio.h>
-#include <string.h>
+#include <stdint.h>
 
 /* What the calls write into, and what must stand there afterwards. */
-static struct lent {
+struct lent {
     double px_x[3], px_y[3], ra[3], dec[3], snr[3];
     double affine[7];
     uint64_t count;
     uint32_t votes[3];
     uint8_t matches[20];
-} lent, due;
+};
+
+#include "lent.h"
 
 /* a quad, and two of the catalogue: one a hundredth off, one that is the same */
 static const uint8_t image[] = {0, 3, 1, 2};
@@ -37,24 +35,6 @@ static const double unit[] = {1, 0, 0, 0, 1, 0};
 static const double bad[] = {0, 1, NAN, 1};
 static const double many[101];
 
-static int wrong = 0;
-
-/* Marks every byte, so that one that is written without need shows. */
-static void lend(void)
-{
-    memset(&lent, 0xaa, sizeof lent);
-    memcpy(&due, &lent, sizeof due);
-}
-
-static void check(const char *call, uint32_t got, uint32_t number)
-{
-    int same = got == number && memcmp(&lent, &due, sizeof due) == 0;
-    printf("%-2" PRIu32 " %s%s\n", got, call, same ? "" : "  WRONG");
-    wrong += !same;
-}
-
-#define CALL(number, name, ...) check(#name, moorspindle_##name(__VA_ARGS__), number)
-#define REFUSED(number, name, ...) (lend(), CALL(number, name, __VA_ARGS__))
 
 #define IMAGE image, 4, hash, 4
 #define CATALOGUE catalogue, 8, hashes, 8
@@ -119,6 +99,5 @@ int main(void)
     matches();
     pairs();
     affines();
-    printf("%d wrong\n", wrong);
-    return wrong != 0;
+    return verdict();
 }

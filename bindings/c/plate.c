@@ -1,19 +1,17 @@
 /* The CD run and the clip from C: each answer, and every byte of all that is lent, beside what it
    must be. */
-#include "moorspindle.h"
-
-#include <inttypes.h>
 #include <math.h>
-#include <stdio.h>
-#include <string.h>
+#include <stdint.h>
 
 /* What the calls write into, and what must stand there afterwards. */
-static struct lent {
+struct lent {
     double cd[7];
     uint64_t on;
     uint8_t mask[12];
     uint8_t tested;
-} lent, due;
+};
+
+#include "lent.h"
 
 /* the unit plate: xi is x, eta is y; the last row is off by 3 and 4 pixels */
 static const double px[] = {0, 9, 0, 9, 5}, py[] = {0, 0, 9, 9, 5};
@@ -30,24 +28,6 @@ static const double low[10], last[] = {0, 0, 0, 0, 0, 0, 0, 0, 0, 1};
 static const double eighth[] = {0.125, 0.125, 0.125};
 static const double least[] = {0x1p-1074, 0x1p-1074, 0x1p-1074};
 
-static int wrong = 0;
-
-/* Marks every byte, so that one that is written without need shows. */
-static void lend(void)
-{
-    memset(&lent, 0xaa, sizeof lent);
-    memcpy(&due, &lent, sizeof due);
-}
-
-static void check(const char *call, uint32_t got, uint32_t number)
-{
-    int same = got == number && memcmp(&lent, &due, sizeof due) == 0;
-    printf("%-2" PRIu32 " %s%s\n", got, call, same ? "" : "  WRONG");
-    wrong += !same;
-}
-
-#define CALL(number, name, ...) check(#name, moorspindle_##name(__VA_ARGS__), number)
-#define REFUSED(number, name, ...) (lend(), CALL(number, name, __VA_ARGS__))
 #define ROWS px, 5, py, 5, xi, 5, eta, 5
 #define OUT(n) lent.mask, n, &lent.tested, &lent.on
 
@@ -104,6 +84,5 @@ int main(void)
 {
     run();
     clip();
-    printf("%d wrong\n", wrong);
-    return wrong != 0;
+    return verdict();
 }
