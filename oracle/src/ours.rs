@@ -2,6 +2,7 @@
 
 pub mod cd;
 pub mod matching;
+pub mod record;
 pub mod run;
 pub mod sip;
 

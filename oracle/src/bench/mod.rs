@@ -7,6 +7,7 @@ pub mod cd;
 pub mod floats;
 pub mod matching;
 pub mod quad;
+pub mod record;
 pub mod run;
 pub mod sip;
 

@@ -8,11 +8,19 @@ mod cd;
 mod floats;
 mod matching;
 mod quad;
+mod record;
 mod run;
 pub mod sip;
 
-pub const GROUPS: &[Group] =
-    &[floats::GROUP, quad::GROUP, matching::GROUP, cd::GROUP, run::GROUP, sip::GROUP];
+pub const GROUPS: &[Group] = &[
+    floats::GROUP,
+    quad::GROUP,
+    matching::GROUP,
+    cd::GROUP,
+    run::GROUP,
+    sip::GROUP,
+    record::GROUP,
+];
 
 /// A call of Moorspindle's, its cases, and the two sources of its answers.
 pub struct Call {

@@ -5,6 +5,7 @@
 pub mod cd;
 pub mod matching;
 pub mod quad;
+pub mod record;
 mod rows;
 pub mod run;
 pub mod sip;

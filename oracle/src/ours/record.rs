@@ -1,0 +1,52 @@
+//! The record. Each pointer comes from a Rust reference and goes with its length, and what is lent to
+//! be written overlaps nothing else.
+
+#[link(name = "moorspindle", kind = "static")]
+unsafe extern "C" {
+    fn moorspindle_write_record(
+        rows_used: u64,
+        wcs: *const f64,
+        wcs_len: usize,
+        order: u32,
+        a: *const f64,
+        a_len: usize,
+        b: *const f64,
+        b_len: usize,
+        sums: *const f64,
+        sums_len: usize,
+        text: *mut u8,
+        text_len: usize,
+        written: *mut u64,
+    ) -> u32;
+}
+
+/// What a record is written of.
+#[derive(Clone, Copy)]
+pub struct Solution<'a> {
+    pub rows_used: u64,
+    pub wcs: &'a [f64],
+    pub order: u32,
+    pub a: &'a [f64],
+    pub b: &'a [f64],
+    pub sums: &'a [f64],
+}
+
+pub fn write_record(of: Solution, text: &mut [u8], written: &mut u64) -> u32 {
+    unsafe {
+        moorspindle_write_record(
+            of.rows_used,
+            of.wcs.as_ptr(),
+            of.wcs.len(),
+            of.order,
+            of.a.as_ptr(),
+            of.a.len(),
+            of.b.as_ptr(),
+            of.b.len(),
+            of.sums.as_ptr(),
+            of.sums.len(),
+            text.as_mut_ptr(),
+            text.len(),
+            written,
+        )
+    }
+}
