@@ -7,6 +7,8 @@
 
 use std::fmt::{self, Display};
 
+use crate::random::Random;
+
 /// What a field holds: the digits alone do not tell a float from a number.
 #[derive(Clone, Copy)]
 pub enum Kind {
@@ -103,6 +105,33 @@ impl Fields {
         }
     }
 
+    /// A damaged copy: in one of its floats or lists of floats a bit is turned, a NaN or an infinity
+    /// put in, or the list has a member more or less. A case without floats stays as it is.
+    pub fn damaged(mut self, random: &mut Random) -> Fields {
+        let floats = |field: &Field| match field {
+            Field::Float(_) => true,
+            Field::Floats(list) => !list.is_empty(),
+            _ => false,
+        };
+        let places: Vec<usize> = (0..self.0.len()).filter(|&at| floats(&self.0[at])).collect();
+        if places.is_empty() {
+            return self;
+        }
+        match &mut self.0[random.one_of(&places)] {
+            Field::Float(x) => *x = damaged(*x, random),
+            Field::Floats(list) => {
+                let at = random.below(list.len() as u64) as usize;
+                match random.below(6) {
+                    0 => drop(list.remove(at)),
+                    1 => list.insert(at, list[at]),
+                    _ => list[at] = damaged(list[at], random),
+                }
+            }
+            _ => unreachable!("a field of floats"),
+        }
+        self
+    }
+
     /// Reads the fields of a line, which must be of these kinds.
     pub fn parse(words: &[&str], kinds: &[Kind]) -> Result<Fields, String> {
         if words.len() != kinds.len() {
@@ -118,6 +147,14 @@ impl Fields {
             })
         });
         fields.collect::<Result<_, String>>().map(Fields)
+    }
+}
+
+fn damaged(x: f64, random: &mut Random) -> f64 {
+    match random.below(5) {
+        0 => f64::NAN,
+        1 => random.signed(f64::INFINITY),
+        _ => f64::from_bits(x.to_bits() ^ 1 << random.below(64)),
     }
 }
 

@@ -7,6 +7,9 @@ use crate::random::Random;
 
 const SHOWN: usize = 5;
 
+/// Of so many random cases one is tried a second time, damaged.
+const DAMAGED: usize = 4;
+
 /// Prints a line for each comparison of the group; true if no answer differed.
 pub fn group(group: &Group, count: Option<usize>, seed: u64) -> bool {
     let mut same = true;
@@ -25,12 +28,17 @@ pub fn group(group: &Group, count: Option<usize>, seed: u64) -> bool {
 fn one(call: &Call, count: usize, seed: u64) -> bool {
     let start = Instant::now();
     let mut random = Random::new(seed, call.name);
+    let mut hammer = Random::new(seed, "damaged");
     let edges = (call.edges)(1);
-    let total = edges.len() + count;
-    let drawn = (0..count).map(|_| (call.random)(&mut random));
+    let drawn = (0..count).flat_map(|place| {
+        let case = (call.random)(&mut random);
+        let damaged = (place % DAMAGED == 0).then(|| case.clone().damaged(&mut hammer));
+        [Some(case), damaged].into_iter().flatten()
+    });
     let mut different = Vec::new();
-    let mut differing = 0;
+    let (mut total, mut differing) = (0, 0);
     for case in edges.into_iter().chain(drawn) {
+        total += 1;
         let (theirs, ours) = ((call.theirs)(&case), (call.ours)(&case));
         if theirs != ours {
             differing += 1;
