@@ -118,6 +118,8 @@ fn no_places() -> [usize; 100]
 // `fitted` shuts out a run that fits only its first trial: no drawn triple that can be fitted has more rows.
 // `untested` shuts out a tested pool that is read as untested, and a row that is then left off.
 // `nine` shuts out number 9 where a drawn triple that can be fitted has three rows.
+// More trials, up to 1,000, on the same input still answer fitted, with no fewer rows on: the law `more-plates`
+// (proofs/More.antt), on the definition that `answer` names.
 pub fn ransac_fit(
     px: &[f64],
     py: &[f64],
