@@ -6,20 +6,21 @@ ghost use Rattle.rows.specs.Rows.{rows};
 ghost use Rattle.cd_sums.specs.Sums.{xiOf, etaOf, noRows, withRow, withWeighted, stepIf, threeSums, plainSums, weightedSums};
 ghost use Rattle.cd_sums.specs.Both.{xiPart, etaPart, Both};
 
-// Six sums of the matrix, which the axes share; three of the right side of xi; three of that of eta.
+// Six sums of the matrix, which the axes share; three of the right side of xi; three of that of eta. Sums that
+// take one step together stand side by side, so that they are added as one vector.
 pub struct Sums {
     pub uu: f64,
     pub uv: f64,
     pub u: f64,
-    pub vv: f64,
     pub v: f64,
-    pub one: f64,
     pub ub: f64,
     pub vb: f64,
-    pub b: f64,
     pub uc: f64,
     pub vc: f64,
+    pub b: f64,
     pub c: f64,
+    pub vv: f64,
+    pub one: f64,
 }
 
 impl Sums {
@@ -31,15 +32,15 @@ impl Sums {
             uu: 0.0,
             uv: 0.0,
             u: 0.0,
-            vv: 0.0,
             v: 0.0,
-            one: 0.0,
             ub: 0.0,
             vb: 0.0,
-            b: 0.0,
             uc: 0.0,
             vc: 0.0,
+            b: 0.0,
             c: 0.0,
+            vv: 0.0,
+            one: 0.0,
         }
     }
 
@@ -55,15 +56,15 @@ impl Sums {
             uu: self.uu + u * u,
             uv: self.uv + u * v,
             u: self.u + u,
-            vv: self.vv + v * v,
             v: self.v + v,
-            one: self.one + 1.0,
             ub: self.ub + u * b,
             vb: self.vb + v * b,
-            b: self.b + b,
             uc: self.uc + u * c,
             vc: self.vc + v * c,
+            b: self.b + b,
             c: self.c + c,
+            vv: self.vv + v * v,
+            one: self.one + 1.0,
         }
     }
 
@@ -86,15 +87,15 @@ impl Sums {
             uu: self.uu + wu * row.px,
             uv: self.uv + wu * row.py,
             u: self.u + wu,
-            vv: self.vv + wv * row.py,
             v: self.v + wv,
-            one: self.one + w,
             ub: self.ub + wu * b,
             vb: self.vb + wv * b,
-            b: self.b + w * b,
             uc: self.uc + wu * c,
             vc: self.vc + wv * c,
+            b: self.b + w * b,
             c: self.c + w * c,
+            vv: self.vv + wv * row.py,
+            one: self.one + w,
         }
     }
 
