@@ -170,7 +170,7 @@ fn parse_bits(word: &str) -> Result<u64, String> {
     u64::from_str_radix(word, 16).map_err(|e| e.to_string())
 }
 
-fn parse_float(word: &str) -> Result<f64, String> {
+pub fn parse_float(word: &str) -> Result<f64, String> {
     parse_bits(word).map(f64::from_bits)
 }
 

@@ -14,6 +14,7 @@ mod calls;
 mod case;
 mod compare;
 mod edges;
+mod frame;
 mod guard;
 mod ours;
 mod random;
@@ -24,6 +25,7 @@ mod theirs;
 const USAGE: &str = "\
 usage: oracle compare [GROUP] [--count N] [--seed S]   both sides on all edges and N random cases
        oracle guard [COUNT]                            every call with all that is lent between guard pages
+       oracle frame [FILE]                             a whole frame through both sides, by steps
        oracle bench [GROUP]                            nanoseconds a call
        oracle cases GROUP COUNT SEED                   print edge cases, then random ones
        oracle answer                                   cases on standard input: the Rust's answers
@@ -53,6 +55,8 @@ fn run(words: &[&str]) -> Outcome<bool> {
         ["compare", options @ ..] => return compare(options),
         ["guard"] => return Ok(guard::run(EVERY, 300)),
         ["guard", count] => return Ok(guard::run(EVERY, parse(count)?)),
+        ["frame"] => return frame::example(),
+        ["frame", path] => return frame::of(path),
         ["bench", name @ ..] => {
             for group in groups(name)? {
                 bench::print(&(group.bench)(&mut Random::new(1, group.name)));

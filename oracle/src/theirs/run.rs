@@ -1,6 +1,6 @@
 //! The run and the clip of cd_matrix.rs behind Moorspindle's signatures.
 
-use celestial_solver::fit_wcs;
+use celestial_solver::{Fit, Row, fit_wcs};
 
 use super::cd::{six, test_mask};
 use super::rows::rows_of;
@@ -12,7 +12,21 @@ use crate::ours::run::{Draw, Ran};
 const MOST: usize = 100; // rows, votes
 const MOST_TRIALS: u32 = 1000;
 
+/// A run of the Rust's: rows, votes, the limit and the number of trials.
+type Run = fn(&[Row], &[usize], f64, usize) -> Fit<Vec<bool>>;
+
 pub fn ransac_fit(rows: Rows, draw: Draw, mask: &mut [u8], ran: &mut Ran) -> u32 {
+    ransac_fit_by(fit_wcs::ransac_fit_of, rows, draw, mask, ran)
+}
+
+/// By the untouched text, whose number of trials is fixed.
+pub fn ransac_fit_untouched(rows: Rows, draw: Draw, mask: &mut [u8], ran: &mut Ran) -> u32 {
+    assert_eq!(draw.trials, MOST_TRIALS);
+    let run: Run = |rows, votes, limit, _| fit_wcs::ransac_fit(rows, votes, limit);
+    ransac_fit_by(run, rows, draw, mask, ran)
+}
+
+fn ransac_fit_by(run: Run, rows: Rows, draw: Draw, mask: &mut [u8], ran: &mut Ran) -> u32 {
     number(|| {
         let Draw { votes, limit, trials } = draw;
         let long = votes.len() > MOST || rows.iter().any(|list| list.len() > MOST);
@@ -21,7 +35,7 @@ pub fn ransac_fit(rows: Rows, draw: Draw, mask: &mut [u8], ran: &mut Ran) -> u32
         refuse(VALUE, !is_limit(limit))?;
         refuse(ROOM, mask.len() < rows.len())?;
         let votes: Vec<usize> = votes.iter().map(|&v| v as usize).collect();
-        let found = fit_wcs::ransac_fit_of(&rows, &votes, limit, trials as usize);
+        let found = run(&rows, &votes, limit, trials as usize);
         let on: Vec<u8> = found.map_err(|_| FEW)?.iter().map(|&on| u8::from(on)).collect();
         put(mask, &on);
         let least = votes.iter().max().map_or(0, |most| most / 3);
