@@ -1,15 +1,19 @@
--- The settled examples P1 to P13, as one table over the written meanings, each row by computation.
+-- The settled examples P1 to P13, and exact cases of the sums, the elimination and the polynomials, as one table over the written meanings, each row by computation.
 use mathlib.Core.Path.{_≡_, refl}
 use mathlib.Core.List.{List, [], _∷_}
 use Prim.Native.Nat.{ℕ}
 use lib.IntN.{ℤ, pos}
 use lib.Ieee.{Float, binary64, ofBits, ofInt, toSigned, neg, mul, add, sub, div, lt, eq, le}
 use Rattle.floats.specs.Root.{rootOf}
+use Rattle.floats.specs.Magnitude.{magnitudeOf}
+use Rattle.floats.specs.Power.{powerOf}
 use Rattle.rows.specs.Rows.{Rows, rows, positionRows}
+use Rattle.elimination.specs.Elimination.{cells, pivotRow, eliminateFrom, rowLess, unknownsTo, Unknowns, solution}
 use Rattle.cd_plate.specs.declared.Cd.{Cd}
 use Rattle.cd_plate.specs.Plate.{determinantOf, isCd, inverseOf, squareOf}
 use Rattle.cd_plate.specs.Filled.{filled}
 use Rattle.cd_mask.specs.Marks.{ones}
+use Rattle.cd_sums.specs.Sums.{Nine, etaOf, sumsTo, weightedSums}
 use Rattle.cd_fit.specs.Fit.{weighedAnswer}
 use Rattle.cd_round.specs.Round.{squaresTo, clipOf, anyRejected}
 use Rattle.cd_clip.specs.declared.Clipped.the-variants as clipped
@@ -21,6 +25,7 @@ use Rattle.quad_spine.specs.declared.Normal.the-variants as normal
 use Rattle.quad_spine.specs.Spine.{starAt, fourAt, distSq, longer, longest, inOrder, oriented, spineOf, placesOf, along, across, cFirst, hashOf, leastScale, normalOf, starsAnswer, placesAnswer, fourAnswer, spineAnswer, normalAnswer}
 use Rattle.quad_key.specs.declared.Hash.{Hash}
 use Rattle.quad_key.specs.Key.{laneOf, keyOf, neighbourKey}
+use Rattle.sip_terms.specs.Terms.{termAt, valueTo, valueOf}
 use Rattle.cd_pool.specs.Pool.{greatest, leastOf, placesFrom, poolOf}
 use Rattle.draw.specs.Draw.{nextWord}
 use Rattle.aggregate_votes.specs.Votes.{Ids, ids, Vote, votesOf, votesFor, counts, isFor, votesAt}
@@ -70,6 +75,14 @@ least = float 1
 abbrev same : Cd
 same = record { cd1_1 = one; cd1_2 = zero; xi0 = zero; cd2_1 = zero; cd2_2 = one; eta0 = zero }
 
+-- a whole number as a float
+abbrev whole : ℕ → Float
+whole n = ofInt binary64 (pos n)
+
+-- a row at pixel (2, 3) of the point (5, 7), and one at (1, 0) of (0, 1), with weights 2 and 4
+abbrev two : Rows
+two = rows (whole 2 ∷ whole 1 ∷ []) (whole 3 ∷ whole 0 ∷ []) (whole 5 ∷ whole 0 ∷ []) (whole 7 ∷ whole 1 ∷ [])
+
 -- the rows
 pub record Table : Type 0 where
   -- P1: the square's spine is 0 and 3, and its hash 0.5, -0.5, 0.5, 0.5
@@ -99,10 +112,16 @@ pub record Table : Type 0 where
   pub p12-id : idOf (stars .results) (chosenBy stars votes 0) ≡ pos 7
   -- P13: under the unit CD three rows (0.125,0,0,0) of weight 2 ^ -1074: the clip turns all off, and is done
   pub p13 : sigmaClip eighths (1 ∷ 1 ∷ 1 ∷ []) same (least ∷ least ∷ least ∷ []) ≡ ended (clipped.Done same) (0 ∷ 0 ∷ 0 ∷ [])
+  -- exact: the weighted sums of the eta axis over the two rows, no step of which rounds
+  pub exact-sums : weightedSums two (1 ∷ 1 ∷ []) (whole 2 ∷ whole 4 ∷ []) etaOf 2 ≡ record { uu = whole 12; uv = whole 12; u = whole 8; vv = whole 18; v = whole 6; one = whole 6; ub = whole 32; vb = whole 42; b = whole 18 }
+  -- exact: 2 x + y = 5 and 4 x + 3 y = 13 have the unknowns 1 and 3; the second row is brought up
+  pub exact-unknowns : solution (cells (whole 2 ∷ whole 1 ∷ whole 5 ∷ whole 4 ∷ whole 3 ∷ whole 13 ∷ []) 3) 2 2 ≡ Unknowns (whole 1 ∷ whole 3 ∷ [])
+  -- exact: 2 u^2 + 3 u v + 5 v^2 at (7, 11) is 934
+  pub exact-polynomial : valueOf (whole 2 ∷ whole 3 ∷ whole 5 ∷ []) (whole 7) (whole 11) ≡ whole 934
 
 -- each row holds by computation
 pub table : Table
-unfolding spineAnswer normalAnswer fourAnswer starsAnswer placesAnswer every starAt fourAt distSq longer longest inOrder oriented spineOf placesOf along across cFirst hashOf leastScale normalOf neighbourKey keyOf laneOf floorOf toSigned ofInt ofBits neg mul add sub div lt eq le poolOf placesFrom leastOf greatest nextWord votesOf counts isFor votesAt better choose claim paired pairsOf clipTests weighedAnswer positionRows isCd clipFrom roundOf filled ones squaresTo clipOf anyRejected determinantOf inverseOf squareOf rootOf
+unfolding spineAnswer normalAnswer fourAnswer starsAnswer placesAnswer every starAt fourAt distSq longer longest inOrder oriented spineOf placesOf along across cFirst hashOf leastScale normalOf neighbourKey keyOf laneOf floorOf toSigned ofInt ofBits neg mul add sub div lt eq le poolOf placesFrom leastOf greatest nextWord votesOf counts isFor votesAt better choose claim paired pairsOf clipTests weighedAnswer positionRows isCd clipFrom roundOf filled ones squaresTo clipOf anyRejected determinantOf inverseOf squareOf rootOf sumsTo magnitudeOf powerOf pivotRow eliminateFrom rowLess unknownsTo termAt valueTo
 table = record {
   p1-spine = refl;
   p1-hash = refl;
@@ -123,4 +142,7 @@ table = record {
   p12 = refl;
   p12-id = refl;
   p13 = refl;
+  exact-sums = refl;
+  exact-unknowns = refl;
+  exact-polynomial = refl;
 }

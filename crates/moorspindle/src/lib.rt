@@ -5,7 +5,7 @@ ghost use lib.ListN.{length};
 ghost use Rattle.floats.specs.Magnitude.{magnitudeOf};
 ghost use Rattle.floats.specs.Floor.{floorOf};
 ghost use Rattle.floats.specs.Power.{powerOf};
-ghost use Rattle.floats.specs.Root.{rootOf};
+ghost use Rattle.floats.specs.Root.{rootOf, IsRoot};
 ghost use Rattle.domain.specs.Answers.{answerNumber, lentAfter, numberAfter};
 ghost use Rattle.quad_key.specs.Key.{keyOf, neighbourKeys, keysAnswer};
 ghost use Rattle.rows.specs.Rows.{rows};
@@ -49,7 +49,8 @@ pub extern "C" fn moorspindle_floor(x: f64) -> i32
 
 #[no_mangle]
 pub extern "C" fn moorspindle_root(x: f64) -> f64
-    ensures { λ r. ⌜ r ≡ rootOf x ⌝ }
+    ensures is { λ r. ⌜ r ≡ rootOf x ⌝ }
+    ensures nearest { λ r. ⌜ IsRoot x r ⌝ }
 {
     floats::root(x)
 }
