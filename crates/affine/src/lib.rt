@@ -28,6 +28,27 @@ impl Affine {
     pub const LEAST_DETERMINANT: f64 = 1e-20;
     // No row agrees with an affine of a smaller determinant.
     pub const LEAST_INVERTED: f64 = 1e-30;
+
+    // The affine of three rows whose determinant is given.
+    fn of(p: Row, q: Row, r: Row, area: f64) -> Affine
+        ensures { λ v. ⌜ v ≡ affineOf p q r area ⌝ }
+    {
+        let inv = 1.0 / area;
+        let a11 = ((q.xi - p.xi) * (r.py - p.py) - (r.xi - p.xi) * (q.py - p.py)) * inv;
+        let a12 = ((r.xi - p.xi) * (q.px - p.px) - (q.xi - p.xi) * (r.px - p.px)) * inv;
+        let a21 = ((q.eta - p.eta) * (r.py - p.py) - (r.eta - p.eta) * (q.py - p.py)) * inv;
+        let a22 = ((r.eta - p.eta) * (q.px - p.px) - (q.eta - p.eta) * (r.px - p.px)) * inv;
+        let tx = p.xi - a11 * p.px - a12 * p.py;
+        let ty = p.eta - a21 * p.px - a22 * p.py;
+        Affine {
+            a11,
+            a12,
+            tx,
+            a21,
+            a22,
+            ty,
+        }
+    }
 }
 
 // What three rows come to.
@@ -63,27 +84,6 @@ fn area_of(p: Row, q: Row, r: Row) -> f64
     (q.px - p.px) * (r.py - p.py) - (r.px - p.px) * (q.py - p.py)
 }
 
-// The affine of three rows whose determinant is given.
-fn affine_of(p: Row, q: Row, r: Row, area: f64) -> Affine
-    ensures { λ v. ⌜ v ≡ affineOf p q r area ⌝ }
-{
-    let inv = 1.0 / area;
-    let a11 = ((q.xi - p.xi) * (r.py - p.py) - (r.xi - p.xi) * (q.py - p.py)) * inv;
-    let a12 = ((r.xi - p.xi) * (q.px - p.px) - (q.xi - p.xi) * (r.px - p.px)) * inv;
-    let a21 = ((q.eta - p.eta) * (r.py - p.py) - (r.eta - p.eta) * (q.py - p.py)) * inv;
-    let a22 = ((r.eta - p.eta) * (q.px - p.px) - (q.eta - p.eta) * (r.px - p.px)) * inv;
-    let tx = p.xi - a11 * p.px - a12 * p.py;
-    let ty = p.eta - a21 * p.px - a22 * p.py;
-    Affine {
-        a11,
-        a12,
-        tx,
-        a21,
-        a22,
-        ty,
-    }
-}
-
 // The affine of three rows, or refusal 8. A determinant of exactly the least is fitted.
 pub fn fit_rows(p: Row, q: Row, r: Row) -> AffineFit
     ensures { λ v. ⌜ v ≡ fitOf p q r ⌝ }
@@ -92,7 +92,7 @@ pub fn fit_rows(p: Row, q: Row, r: Row) -> AffineFit
     if floats::magnitude(area) < Affine::LEAST_DETERMINANT {
         return AffineFit::Refused(Refusal::Degenerate);
     }
-    AffineFit::Fitted(affine_of(p, q, r, area))
+    AffineFit::Fitted(Affine::of(p, q, r, area))
 }
 
 // The determinant of an affine's four factors.

@@ -105,7 +105,7 @@ pub fn compute_pixel_errors(
         }
         return Refusal::Count.number();
     }
-    cd_errors::compute_pixel_errors(px, py, xi, eta, mask, cd_plate::cd_in(cd), errors).number()
+    cd_errors::compute_pixel_errors(px, py, xi, eta, mask, Cd::of(cd), errors).number()
 }
 
 // The residuals of rows in degrees under a WCS of six numbers, and how many they are.

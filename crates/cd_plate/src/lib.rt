@@ -34,6 +34,21 @@ impl Cd {
     // A fit needs a determinant above this, and residuals one that is not below.
     pub const LEAST_DETERMINANT: f64 = 1e-30;
 
+    // The CD that six numbers make.
+    pub fn of(m: &[f64]) -> Cd
+        requires { ⌜ 6 ≤ length (now m) ⌝ }
+        ensures { λ r. ⌜ r ≡ cdIn (now (m .entry)) ⌝ }
+    {
+        Cd {
+            cd1_1: m[0],
+            cd1_2: m[1],
+            xi0: m[2],
+            cd2_1: m[3],
+            cd2_2: m[4],
+            eta0: m[5],
+        }
+    }
+
     // The determinant of its four factors.
     pub fn determinant(self) -> f64
         ensures { λ r. ⌜ r ≡ determinantOf self ⌝ }
@@ -95,21 +110,6 @@ impl Inverse {
         ensures { λ r. ⌜ r ≡ errorOf self row ⌝ }
     {
         floats::root(self.square(row))
-    }
-}
-
-// The CD that six numbers make.
-pub fn cd_in(m: &[f64]) -> Cd
-    requires { ⌜ 6 ≤ length (now m) ⌝ }
-    ensures { λ r. ⌜ r ≡ cdIn (now (m .entry)) ⌝ }
-{
-    Cd {
-        cd1_1: m[0],
-        cd1_2: m[1],
-        xi0: m[2],
-        cd2_1: m[3],
-        cd2_2: m[4],
-        eta0: m[5],
     }
 }
 

@@ -58,7 +58,7 @@ pub fn sigma_clip_loop_weighted(
         }
         return Refusal::Count.number();
     }
-    let m = cd_plate::cd_in(cd);
+    let m = Cd::of(cd);
     put_clip(
         cd_clip::sigma_clip_loop_weighted(px, py, xi, eta, mask, m, weights),
         cd,

@@ -14,13 +14,13 @@ returns : tie.Need-returns
 unfolding fitOf
 returns c = rw (← c .before .before .area-of .ensures, ← c .before .magnitude .ensures, c .if1 .taken)
 
-affine-of-requires : tie.Need-affine-of-requires
-affine-of-requires c κs = search needs
+of-requires : tie.Need-of-requires
+of-requires c κs = search needs
 
 returns-2 : tie.Need-returns-2
 unfolding fitOf
-returns-2 c = rw (← c .before .before .before .area-of .ensures, ← c .before .before .magnitude .ensures, c .before .if1 .left, c .affine-of .ensures)
+returns-2 c = rw (← c .before .before .before .area-of .ensures, ← c .before .before .magnitude .ensures, c .before .if1 .left, c .of .ensures)
 
 pub fit-rows-spec : {M : Type 1} → statement M
 fit-rows-spec =
-    tie.close (tie.spec area-of-requires magnitude-requires returns affine-of-requires returns-2)
+    tie.close (tie.spec area-of-requires magnitude-requires returns of-requires returns-2)

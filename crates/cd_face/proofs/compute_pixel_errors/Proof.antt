@@ -23,8 +23,8 @@ returns-2 : tie.Need-returns-2
 returns-2 c =
     rw (ne-eqb _ _ (c .before .before .before .if1 .taken), ← c .before .before .few-masked .ensures, c .before .if2 .left) (c .number2 .ensures, refl)
 
-cd-in-requires : tie.Need-cd-in-requires
-cd-in-requires c κs = search needs
+of-requires : tie.Need-of-requires
+of-requires c κs = search needs
 
 compute-pixel-errors-requires : tie.Need-compute-pixel-errors-requires
 compute-pixel-errors-requires c κs = search needs
@@ -39,7 +39,7 @@ returns-3 : tie.Need-returns-3
 returns-3 c =
     let tried = c .before .before .before in
     let made = tried .before .before in
-    rw (eq-eqb _ _ (made .before .if1 .left), ← made .cd-in .ensures) (
+    rw (eq-eqb _ _ (made .before .if1 .left), ← made .of .ensures) (
       c .number3 .ensures ∙ ap answerNumber (tried .compute-pixel-errors .ensures .0),
       tried .compute-pixel-errors .ensures .1,
     )
@@ -53,7 +53,7 @@ compute-pixel-errors-spec =
     returns
     number-requires-2
     returns-2
-    cd-in-requires
+    of-requires
     compute-pixel-errors-requires
     number-requires-3
     same-length

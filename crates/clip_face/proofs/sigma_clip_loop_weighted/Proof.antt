@@ -29,8 +29,8 @@ same-length-2 c = search needs
 returns-2 : tie.Need-returns-2
 returns-2 c = rw (ne-eqb _ _ (c .before .before .before .before .if1 .taken), ← c .before .before .few-masked .ensures, c .before .if2 .left) (c .number2 .ensures, (refl, refl))
 
-cd-in-requires : tie.Need-cd-in-requires
-cd-in-requires c κs = search needs
+of-requires : tie.Need-of-requires
+of-requires c κs = search needs
 
 sigma-clip-loop-weighted-requires : tie.Need-sigma-clip-loop-weighted-requires
 sigma-clip-loop-weighted-requires c κs = search needs
@@ -48,7 +48,7 @@ returns-3 : tie.Need-returns-3
 returns-3 c =
     let clip = c .before .before .before .before .before .before .sigma-clip-loop-weighted .ensures in
     let put = c .before .before .put-clip .ensures in
-    rw (eq-eqb _ _ (c .before .before .before .before .before .before .before .before .before .before .if1 .left), ← c .before .before .before .before .before .before .before .before .cd-in .ensures)
+    rw (eq-eqb _ _ (c .before .before .before .before .before .before .before .before .before .before .if1 .left), ← c .before .before .before .before .before .before .before .before .of .ensures)
     (put .0 ∙ ap clipNumber (clip .0), (clip .1, put .1 ∙ ap (λ (a : Clipped). plateAfter a (c .before .before .before .before .before .before .before .before .before .before .before .before .before .before .before .before .before .before .args .cd .now)) (clip .0)))
 
 pub sigma-clip-loop-weighted-spec : {M : Type 1} → statement M
@@ -62,7 +62,7 @@ sigma-clip-loop-weighted-spec =
     number-requires-2
     same-length-2
     returns-2
-    cd-in-requires
+    of-requires
     sigma-clip-loop-weighted-requires
     put-clip-requires
     same-length-3
