@@ -1,3 +1,4 @@
 pub mod Order
 pub mod Turned
 pub mod Longest
+pub mod Pairs
