@@ -29,6 +29,7 @@ pub record Given : Type 0 where
   pub ras : List Float
   pub decs : List Float
 
+-- the same, by its lists in the order of the call
 abbrev pub given : List ℕ → List Float → List Float → List Float → List ℕ → List ℤ → List ℤ → List Float → List Float → Given
 given matches xs ys snrs images catalogue results ras decs =
     record { matches = matches; xs = xs; ys = ys; snrs = snrs; images = images; catalogue = catalogue; results = results; ras = ras; decs = decs }
@@ -42,6 +43,7 @@ pub record Room : Type 0 where
   pub votes : ℕ
   pub snr : ℕ
 
+-- the same, by its six numbers in the order of the call
 abbrev pub room : ℕ → ℕ → ℕ → ℕ → ℕ → ℕ → Room
 room px py ra dec votes snr = record { px = px; py = py; ra = ra; dec = dec; votes = votes; snr = snr }
 
@@ -127,17 +129,22 @@ choiceIn g d = chosenBy (idsIn g) (votesOf (g .matches)) d
 abbrev pub pairXs : Given → List Float
 pairXs g = map (λ d. getD (g .xs) d nan) (found g)
 
+-- their y
 abbrev pub pairYs : Given → List Float
 pairYs g = map (λ d. getD (g .ys) d nan) (found g)
 
+-- their right ascensions
 abbrev pub pairRas : Given → List Float
 pairRas g = map (λ d. getD (g .ras) (choiceIn g d .at) nan) (found g)
 
+-- their declinations
 abbrev pub pairDecs : Given → List Float
 pairDecs g = map (λ d. getD (g .decs) (choiceIn g d .at) nan) (found g)
 
+-- their votes
 abbrev pub pairVotes : Given → List ℕ
 pairVotes g = map (λ d. choiceIn g d .votes) (found g)
 
+-- their detections' snr
 abbrev pub pairSnrs : Given → List Float
 pairSnrs g = map (λ d. getD (g .snrs) d nan) (found g)

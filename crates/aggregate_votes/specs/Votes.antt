@@ -23,6 +23,7 @@ pub record Vote : Type 0 where
   pub image : ℕ
   pub catalogue : ℕ
 
+-- a vote by its two places
 abbrev pub vote : ℕ → ℕ → Vote
 vote a b = record { image = a; catalogue = b }
 
@@ -50,6 +51,7 @@ pub record Ids : Type 0 where
   pub catalogue : List ℤ
   pub results : List ℤ
 
+-- the three lists of ids, in the order of the call
 abbrev pub ids : List ℕ → List ℤ → List ℤ → Ids
 ids images catalogue results = record { images = images; catalogue = catalogue; results = results }
 
@@ -61,6 +63,7 @@ positionOf i c = lastOf (i .results) c (length (i .results))
 abbrev pub detectionOf : Ids → Vote → ℕ
 detectionOf i v = getD (i .images) (v .image) 0
 
+-- the catalogue id that a vote names
 abbrev pub catalogueOf : Ids → Vote → ℤ
 catalogueOf i v = getD (i .catalogue) (v .catalogue) (pos 0)
 

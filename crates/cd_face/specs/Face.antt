@@ -82,6 +82,7 @@ rmsIn (rms.Refused why) = nan
 abbrev pub rmsFace : List Float → Answer
 rmsFace errors = rmsDone (rmsAnswer errors)
 
+-- what it writes
 abbrev pub rmsValue : List Float → Float
 rmsValue errors = rmsIn (rmsAnswer errors)
 
@@ -89,5 +90,6 @@ rmsValue errors = rmsIn (rmsAnswer errors)
 abbrev pub weightedFace : List Float → List Float → Answer
 weightedFace errors weights = rmsDone (weightedAnswer errors weights)
 
+-- what it writes
 abbrev pub weightedValue : List Float → List Float → Float
 weightedValue errors weights = rmsIn (weightedAnswer errors weights)

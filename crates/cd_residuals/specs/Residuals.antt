@@ -62,9 +62,11 @@ residualOf w v row = record {
 abbrev pub xAt : Rows → Wcs → Inverse → ℕ → Float
 xAt r w v k = residualOf w v (rowAt r k) .x
 
+-- the same in y
 abbrev pub yAt : Rows → Wcs → Inverse → ℕ → Float
 yAt r w v k = residualOf w v (rowAt r k) .y
 
+-- and its length
 abbrev pub pxAt : Rows → Wcs → Inverse → ℕ → Float
 pxAt r w v k = residualOf w v (rowAt r k) .px
 
@@ -72,9 +74,11 @@ pxAt r w v k = residualOf w v (rowAt r k) .px
 abbrev pub residualsX : Rows → Wcs → List Float
 residualsX r w = filled (xAt r w (inverseOf (plateOf w))) (foundOf w (count r))
 
+-- in y
 abbrev pub residualsY : Rows → Wcs → List Float
 residualsY r w = filled (yAt r w (inverseOf (plateOf w))) (foundOf w (count r))
 
+-- and their lengths
 abbrev pub residualsPx : Rows → Wcs → List Float
 residualsPx r w = filled (pxAt r w (inverseOf (plateOf w))) (foundOf w (count r))
 

@@ -25,6 +25,7 @@ pub record Nine : Type 0 where
 abbrev pub xiOf : Row → Float
 xiOf row = row .xi
 
+-- a row's number on the eta axis
 abbrev pub etaOf : Row → Float
 etaOf row = row .eta
 

@@ -48,6 +48,7 @@ pub data Ended : Type 0 where
   Reduced : Matrix → Ended
   Stopped : ℕ → Ended
 
+-- the first of two ends where a test holds, and else the second
 abbrev pub pick : Bool → Ended → Ended → Ended
 pick true a b = a
 pick false a b = b
@@ -84,6 +85,7 @@ pub data Solved : Type 0 where
   Unknowns : List Float → Solved
   Singular : ℕ → Solved
 
+-- what the unknowns are once a matrix is reduced; a column at which it stopped has none
 abbrev pub solvedBy : Ended → ℕ → ℕ → Solved
 solvedBy (Reduced m) n b = Unknowns (unknowns m n b)
 solvedBy (Stopped col) n b = Singular col

@@ -15,6 +15,7 @@ threeUnknowns m =
     let x = div binary64 (sub binary64 (sub binary64 (m 0 3) (mul binary64 (m 0 1) y)) (mul binary64 (m 0 2) z)) (m 0 0) in
     x ∷ y ∷ z ∷ []
 
+-- the same after the elimination
 abbrev pub threeBy : Ended → Solved
 threeBy (Reduced m) = Unknowns (threeUnknowns m)
 threeBy (Stopped col) = Singular col
@@ -35,6 +36,7 @@ reducedApart s col = record {
   b = λ r. cond (ltb col r) (sub binary64 (s .b r) (mul binary64 (div binary64 (s .a r col) (s .a col col)) (s .b col))) (s .b r);
 }
 
+-- one column with the right side apart
 abbrev pub columnApart : Apart → ℕ → ℕ → Apart
 columnApart s n col = reducedApart (swappedApart s col (pivotOf (s .a) n col)) col
 
@@ -46,6 +48,7 @@ unknownsApart s n (suc k) =
     let i = n - suc k in
     div binary64 (rowLess (s .a) i (i + 1) xs (s .b i)) (s .a i i) ∷ xs
 
+-- the first of two answers where a test holds, and else the second
 abbrev pub pickSolved : Bool → Solved → Solved → Solved
 pickSolved true x y = x
 pickSolved false x y = y

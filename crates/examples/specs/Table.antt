@@ -39,9 +39,11 @@ float bits = ofBits binary64 bits
 abbrev zero : Float
 zero = float 0
 
+-- 0.5
 abbrev half : Float
 half = float 0x3fe0_0000_0000_0000
 
+-- 1.0
 abbrev one : Float
 one = float 0x3ff0_0000_0000_0000
 
@@ -49,6 +51,7 @@ one = float 0x3ff0_0000_0000_0000
 abbrev xs : List Float
 xs = zero ∷ one ∷ zero ∷ one ∷ []
 
+-- and its y
 abbrev ys : List Float
 ys = zero ∷ zero ∷ one ∷ one ∷ []
 
@@ -60,6 +63,7 @@ square = record { h0 = half; h1 = neg half; h2 = half; h3 = half }
 abbrev stars : Ids
 stars = ids (0 ∷ 1 ∷ []) (pos 7 ∷ pos 9 ∷ []) (pos 7 ∷ pos 9 ∷ [])
 
+-- the votes of two matches; the last is for places that do not exist
 abbrev votes : List Vote
 votes = votesOf (0 ∷ 0 ∷ 0 ∷ 1 ∷ 0 ∷ 0 ∷ 0 ∷ 0 ∷ 1 ∷ 1 ∷ 1 ∷ 255 ∷ 0 ∷ 1 ∷ 1 ∷ 255 ∷ [])
 
@@ -69,9 +73,11 @@ eighths =
     let eighth = float 0x3fc0_0000_0000_0000 in
     rows (eighth ∷ eighth ∷ eighth ∷ []) (zero ∷ zero ∷ zero ∷ []) (zero ∷ zero ∷ zero ∷ []) (zero ∷ zero ∷ zero ∷ [])
 
+-- the least weight
 abbrev least : Float
 least = float 1
 
+-- the plate that changes nothing
 abbrev same : Cd
 same = record { cd1_1 = one; cd1_2 = zero; xi0 = zero; cd2_1 = zero; cd2_2 = one; eta0 = zero }
 

@@ -55,6 +55,7 @@ wrmsName = 119 ∷ 114 ∷ 109 ∷ 115 ∷ 61 ∷ []
 abbrev pub aLetter : ℕ
 aLetter = 97
 
+-- the letter of the second axis
 abbrev pub bLetter : ℕ
 bLetter = 98
 

@@ -18,6 +18,7 @@ pub record Rows : Type 0 where
   pub xi : List Float
   pub eta : List Float
 
+-- rows by their four lists, in the order of the calls
 abbrev pub rows : List Float → List Float → List Float → List Float → Rows
 rows px py xi eta = record { px = px; py = py; xi = xi; eta = eta }
 
