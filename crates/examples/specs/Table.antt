@@ -35,7 +35,7 @@ use Rattle.aggregate_choice.specs.Choice.{idOf, better, choose, claim, paired, 
 abbrev float : ℕ → Float
 float bits = ofBits binary64 bits
 
--- 0.0, 0.5 and 1.0
+-- 0.0
 abbrev zero : Float
 zero = float 0
 
@@ -47,7 +47,7 @@ half = float 0x3fe0_0000_0000_0000
 abbrev one : Float
 one = float 0x3ff0_0000_0000_0000
 
--- the square (0,0) (1,0) (0,1) (1,1), its x and its y
+-- the square (0,0) (1,0) (0,1) (1,1), its x
 abbrev xs : List Float
 xs = zero ∷ one ∷ zero ∷ one ∷ []
 
@@ -59,7 +59,7 @@ ys = zero ∷ zero ∷ one ∷ one ∷ []
 abbrev square : Hash
 square = record { h0 = half; h1 = neg half; h2 = half; h3 = half }
 
--- detections 0 and 1, catalogue ids 7 and 9, and two matches that vote for them; the last vote is for places that do not exist
+-- detections 0 and 1, and catalogue ids 7 and 9
 abbrev stars : Ids
 stars = ids (0 ∷ 1 ∷ []) (pos 7 ∷ pos 9 ∷ []) (pos 7 ∷ pos 9 ∷ [])
 
@@ -67,7 +67,7 @@ stars = ids (0 ∷ 1 ∷ []) (pos 7 ∷ pos 9 ∷ []) (pos 7 ∷ pos 9 ∷ [])
 abbrev votes : List Vote
 votes = votesOf (0 ∷ 0 ∷ 0 ∷ 1 ∷ 0 ∷ 0 ∷ 0 ∷ 0 ∷ 1 ∷ 1 ∷ 1 ∷ 255 ∷ 0 ∷ 1 ∷ 1 ∷ 255 ∷ [])
 
--- three rows at one pixel, whose points are (0, 0), the least weight, and the plate that changes nothing
+-- three rows at one pixel, whose points are (0, 0)
 abbrev eighths : Rows
 eighths =
     let eighth = float 0x3fc0_0000_0000_0000 in
