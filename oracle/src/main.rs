@@ -59,7 +59,9 @@ fn run(words: &[&str]) -> Outcome<bool> {
         ["frame", path] => return frame::of(path),
         ["bench", name @ ..] => {
             for group in groups(name)? {
+                println!("## {}\n", group.title);
                 bench::print(&(group.bench)(&mut Random::new(1, group.name)));
+                println!();
             }
         }
         ["cases", name, count, seed] => {

@@ -40,6 +40,8 @@ pub struct Call {
 
 pub struct Group {
     pub name: &'static str,
+    /// The heading of its times.
+    pub title: &'static str,
     pub calls: &'static [Call],
     /// More comparisons, with cases or answers from elsewhere: `compare` alone makes them.
     pub also: &'static [Call],
