@@ -13,4 +13,5 @@ fn main() {
     };
     println!("cargo::rerun-if-changed={}", archive.display());
     println!("cargo::rustc-link-search=native={}", archive.parent().unwrap().display());
+    println!("cargo::rustc-env=LINKED_ARCHIVE={}", archive.display());
 }

@@ -9,6 +9,7 @@ use calls::{Call, GROUPS, Group};
 use case::{Answer, Case};
 use random::Random;
 
+mod archive;
 mod bench;
 mod calls;
 mod case;
@@ -19,6 +20,11 @@ mod guard;
 mod ours;
 mod random;
 mod rows;
+#[cfg(any(test, feature = "stack"))]
+mod stack;
+#[cfg(not(any(test, feature = "stack")))]
+#[path = "stack_off.rs"]
+mod stack;
 mod stars;
 mod theirs;
 
@@ -27,6 +33,7 @@ usage: oracle compare [GROUP] [--count N] [--seed S]   both sides on all edges a
        oracle guard [COUNT]                            every call with all that is lent between guard pages
        oracle frame [FILE]                             a whole frame through both sides, by steps
        oracle bench [GROUP]                            nanoseconds a call
+       oracle stack [COUNT]                            the stack of each call, the size of the archive
        oracle cases GROUP COUNT SEED                   print edge cases, then random ones
        oracle answer                                   cases on standard input: the Rust's answers
        oracle ours                                     the same through Moorspindle";
@@ -59,9 +66,13 @@ fn run(words: &[&str]) -> Outcome<bool> {
         ["frame", path] => return frame::of(path),
         ["bench", name @ ..] => {
             for group in groups(name)? {
+                println!("## {}\n", group.title);
                 bench::print(&(group.bench)(&mut Random::new(1, group.name)));
+                println!();
             }
         }
+        ["stack"] => stack(300)?,
+        ["stack", count] => stack(parse(count)?)?,
         ["cases", name, count, seed] => {
             let lines = cases(group(name)?, parse(count)?, parse(seed)?);
             print(lines.into_iter().map(Ok))?;
@@ -98,6 +109,16 @@ fn compare(options: &[&str]) -> Outcome<bool> {
         same &= compare::group(group, count, seed);
     }
     Ok(same)
+}
+
+/// The last section of the benchmark.
+fn stack(count: usize) -> Outcome<()> {
+    let tables = [stack::table(count)?, archive::table()?];
+    println!("## Stack and size\n");
+    for table in tables {
+        println!("{}\n", table.join("\n"));
+    }
+    Ok(())
 }
 
 fn group(name: &str) -> Outcome<&'static Group> {

@@ -6,6 +6,8 @@ pub mod record;
 pub mod run;
 pub mod sip;
 
+use crate::stack::called;
+
 #[link(name = "moorspindle", kind = "static")]
 unsafe extern "C" {
     safe fn moorspindle_magnitude(x: f64) -> f64;
@@ -83,19 +85,19 @@ unsafe extern "C" {
 }
 
 pub fn magnitude(x: f64) -> f64 {
-    moorspindle_magnitude(x)
+    called(|| moorspindle_magnitude(x))
 }
 
 pub fn floor(x: f64) -> i32 {
-    moorspindle_floor(x)
+    called(|| moorspindle_floor(x))
 }
 
 pub fn root(x: f64) -> f64 {
-    moorspindle_root(x)
+    called(|| moorspindle_root(x))
 }
 
 pub fn power(u: f64, p: u32) -> f64 {
-    moorspindle_power(u, p)
+    called(|| moorspindle_power(u, p))
 }
 
 // The quads. Each pointer that follows comes from a Rust reference and goes with its length, and
@@ -103,7 +105,7 @@ pub fn power(u: f64, p: u32) -> f64 {
 
 pub fn find_spine(xs: &[f64], ys: &[f64], places: [u8; 4], spine: &mut [u8]) -> u32 {
     let [p0, p1, p2, p3] = places;
-    unsafe {
+    called(|| unsafe {
         moorspindle_find_spine(
             xs.as_ptr(),
             xs.len(),
@@ -116,12 +118,14 @@ pub fn find_spine(xs: &[f64], ys: &[f64], places: [u8; 4], spine: &mut [u8]) -> 
             spine.as_mut_ptr(),
             spine.len(),
         )
-    }
+    })
 }
 
 /// Each star is its x, its y and its place.
 pub fn orient_spine(a: (f64, f64, u8), b: (f64, f64, u8), pair: &mut [u8]) -> u32 {
-    unsafe { moorspindle_orient_spine(a.0, a.1, a.2, b.0, b.1, b.2, pair.as_mut_ptr(), pair.len()) }
+    called(|| unsafe {
+        moorspindle_orient_spine(a.0, a.1, a.2, b.0, b.1, b.2, pair.as_mut_ptr(), pair.len())
+    })
 }
 
 pub fn normalize_quad_ordered(
@@ -132,7 +136,7 @@ pub fn normalize_quad_ordered(
     places: &mut [u8],
 ) -> u32 {
     let [a, b, c, d] = quad;
-    unsafe {
+    called(|| unsafe {
         moorspindle_normalize_quad_ordered(
             xs.as_ptr(),
             xs.len(),
@@ -147,15 +151,15 @@ pub fn normalize_quad_ordered(
             places.as_mut_ptr(),
             places.len(),
         )
-    }
+    })
 }
 
 pub fn combinations_4(n: u32, state: &mut [u8]) -> u32 {
-    unsafe { moorspindle_combinations_4(n, state.as_mut_ptr(), state.len()) }
+    called(|| unsafe { moorspindle_combinations_4(n, state.as_mut_ptr(), state.len()) })
 }
 
 pub fn combinations_4_next(n: u32, state: &mut [u8], places: &mut [u8], given: &mut u8) -> u32 {
-    unsafe {
+    called(|| unsafe {
         moorspindle_combinations_4_next(
             n,
             state.as_mut_ptr(),
@@ -164,7 +168,7 @@ pub fn combinations_4_next(n: u32, state: &mut [u8], places: &mut [u8], given: &
             places.len(),
             given,
         )
-    }
+    })
 }
 
 pub fn neighbor_quads(
@@ -176,7 +180,7 @@ pub fn neighbor_quads(
     hashes: &mut [f64],
     quads: &mut u64,
 ) -> u32 {
-    unsafe {
+    called(|| unsafe {
         moorspindle_neighbor_quads(
             xs.as_ptr(),
             xs.len(),
@@ -190,17 +194,17 @@ pub fn neighbor_quads(
             hashes.len(),
             quads,
         )
-    }
+    })
 }
 
 pub fn discrete_hash_key(hash: [f64; 4]) -> u64 {
     let [h0, h1, h2, h3] = hash;
-    moorspindle_discrete_hash_key(h0, h1, h2, h3)
+    called(|| moorspindle_discrete_hash_key(h0, h1, h2, h3))
 }
 
 pub fn discrete_hash_key_neighbors(hash: [f64; 4], keys: &mut [u64]) -> u32 {
     let [h0, h1, h2, h3] = hash;
-    unsafe {
+    called(|| unsafe {
         moorspindle_discrete_hash_key_neighbors(h0, h1, h2, h3, keys.as_mut_ptr(), keys.len())
-    }
+    })
 }

@@ -49,7 +49,8 @@ pub fn rows(random: &mut Random) -> Vec<Row> {
                 &mut found,
             );
             found
-        }),
+        })
+        .of("find_matches"),
         {
             let [image, catalogue] = [&frame[0].image, &frame[0].catalogue]
                 .map(|lists| theirs::matching::quads_of(quads_of(lists)));
@@ -63,7 +64,8 @@ pub fn rows(random: &mut Random) -> Vec<Row> {
             ours::matching::extract_pairs(&frame.matches, voters(frame), &mut pairs, &mut count);
             black_box(&*pairs);
             count
-        }),
+        })
+        .of("extract_pairs"),
         {
             let matches = theirs::matching::matches_of(&frame[0].matches);
             let (image, catalogue, results) = theirs::matching::voters_of(voters(&frame[0]));
@@ -77,7 +79,8 @@ pub fn rows(random: &mut Random) -> Vec<Row> {
             let mut affine = [0.0; 6];
             ours::matching::fit_affine_3pt(lists(rows), [3, 50, 97], &mut affine);
             affine
-        }),
+        })
+        .of("fit_affine_3pt"),
         Row::over("affine of 3 of 100", "the Rust", &tuples, |rows| {
             match_field::fit_affine_3pt(rows, 3, 50, 97)
         }),
@@ -85,7 +88,8 @@ pub fn rows(random: &mut Random) -> Vec<Row> {
             let mut inliers = 0;
             ours::matching::count_affine_inliers(lists(rows), &AFFINE, 10.0, &mut inliers);
             inliers
-        }),
+        })
+        .of("count_affine_inliers"),
         Row::over("inliers of 100", "the Rust", &tuples, |rows| {
             match_field::count_affine_inliers(rows, &AFFINE, 10.0)
         }),
@@ -93,7 +97,8 @@ pub fn rows(random: &mut Random) -> Vec<Row> {
             let mut score = 0;
             ours::matching::verify_pairs(lists(rows), &mut score);
             score
-        }),
+        })
+        .of("verify_pairs"),
         Row::over("verify_pairs of 100", "the Rust", &tuples, |rows| {
             match_field::verify_pairs(rows)
         }),

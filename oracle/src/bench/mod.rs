@@ -18,9 +18,11 @@ type Timed = Box<dyn Fn() -> f64>;
 
 /// One way to answer a call, ready to be timed over inputs that were made before.
 pub struct Row {
-    call: &'static str,
+    pub call: &'static str,
     by: &'static str,
-    apart: Timed,
+    /// The name of the call that it times, if that is Moorspindle's.
+    pub of: Option<&'static str>,
+    pub apart: Timed,
     chained: Option<Timed>,
 }
 
@@ -40,7 +42,12 @@ impl Row {
             }
             nanoseconds(start, inputs.len())
         });
-        Row { call, by, apart, chained: None }
+        Row { call, by, of: None, apart, chained: None }
+    }
+
+    /// Says that it times this call of Moorspindle's.
+    pub fn of(self, call: &'static str) -> Row {
+        Row { of: Some(call), ..self }
     }
 
     /// The same of a float, and then in a chain, where each call waits for the last.
@@ -88,8 +95,18 @@ fn nanoseconds(start: Instant, calls: usize) -> f64 {
     start.elapsed().as_secs_f64() * 1e9 / calls as f64
 }
 
-/// Times the rows, each once in every round, and prints the medians as a table.
+/// Times the rows, and prints the medians as a table.
 pub fn print(rows: &[Row]) {
+    for line in table(rows, &medians(rows)) {
+        println!("{line}");
+    }
+}
+
+/// The median of a call, and of one in a chain where it was timed so.
+type Medians = [Option<f64>; 2];
+
+/// Times the rows, each once in every round.
+fn medians(rows: &[Row]) -> Vec<Medians> {
     let mut times = vec![(Vec::new(), Vec::new()); rows.len()];
     for _ in 0..ROUNDS {
         for (row, (apart, chained)) in rows.iter().zip(&mut times) {
@@ -97,21 +114,7 @@ pub fn print(rows: &[Row]) {
             chained.extend(row.chained.as_ref().map(|timed| timed()));
         }
     }
-    println!("| call | by | ns a call | Moorspindle / this | ns in a chain | Moorspindle / this |");
-    println!("|---|---|--:|--:|--:|--:|");
-    let (mut call, mut first) = ("", [None; 2]);
-    for (row, (apart, chained)) in rows.iter().zip(times) {
-        let medians = [median(apart), median(chained)];
-        let mut ratios = [None; 2];
-        if row.call == call {
-            ratios = [0, 1].map(|i| Some(first[i]? / medians[i]?));
-        } else {
-            (call, first) = (row.call, medians);
-        }
-        let [time, in_chain] = medians.map(cell);
-        let [ratio, of_chain] = ratios.map(cell);
-        println!("| {call} | {} | {time} | {ratio} | {in_chain} | {of_chain} |", row.by);
-    }
+    times.into_iter().map(|(apart, chained)| [median(apart), median(chained)]).collect()
 }
 
 fn median(mut times: Vec<f64>) -> Option<f64> {
@@ -119,6 +122,116 @@ fn median(mut times: Vec<f64>) -> Option<f64> {
     times.get(times.len() / 2).copied()
 }
 
-fn cell(number: Option<f64>) -> String {
-    number.map_or(String::new(), |number| format!("{number:.2}"))
+/// The lines of the table; the columns of the chain only where there is one.
+fn table(rows: &[Row], medians: &[Medians]) -> Vec<String> {
+    let columns = if rows.iter().any(|row| row.chained.is_some()) { 2 } else { 1 };
+    let heads = [" ns a call | Moorspindle / this |", " ns in a chain | Moorspindle / this |"];
+    let head = format!("| call | by |{}", heads[..columns].concat());
+    let mut lines = vec![head, format!("|---|---|{}", "--:|--:|".repeat(columns))];
+    let (mut call, mut ours) = ("", [None; 2]);
+    for (row, medians) in rows.iter().zip(medians) {
+        if row.of.is_some() {
+            (call, ours) = (row.call, *medians);
+        }
+        let beside = row.of.is_none() && row.call == call;
+        let mut line = format!("| {} | {} |", row.call, row.by);
+        for (time, ours) in medians.iter().zip(ours).take(columns) {
+            let ratio = ours.zip(*time).filter(|_| beside).map(|(ours, time)| ours / time);
+            line += &format!(" {} | {} |", cell(*time, nanoseconds_of), cell(ratio, ratio_of));
+        }
+        lines.push(line);
+    }
+    lines
+}
+
+fn cell(number: Option<f64>, form: fn(f64) -> String) -> String {
+    number.map_or(String::new(), form)
+}
+
+fn nanoseconds_of(time: f64) -> String {
+    if time < 10_000.0 { format!("{time:.2}") } else { whole(time) }
+}
+
+/// A ratio above 1 is marked by bold type: Moorspindle is the slower one there.
+fn ratio_of(ratio: f64) -> String {
+    let shown = (ratio * 100.0).round() / 100.0;
+    if shown > 1.0 { format!("**{shown:.2}**") } else { format!("{shown:.2}") }
+}
+
+/// The number rounded, with commas between its thousands.
+pub fn whole(number: f64) -> String {
+    let digits = format!("{number:.0}");
+    let mut text = String::new();
+    for (place, digit) in digits.chars().enumerate() {
+        if place > 0 && (digits.len() - place) % 3 == 0 {
+            text.push(',');
+        }
+        text.push(digit);
+    }
+    text
+}
+
+#[cfg(test)]
+mod tests {
+    use super::*;
+    use crate::calls::GROUPS;
+    use crate::random::Random;
+
+    /// The names of the header's calls, without their common start.
+    fn declared() -> Vec<&'static str> {
+        let header = include_str!("../../../bindings/c/moorspindle.h");
+        let after = header.split("moorspindle_").skip(1);
+        after.filter_map(|text| text.split_once('(')).map(|(name, _)| name).collect()
+    }
+
+    #[test]
+    fn every_call_is_timed_beside_another() {
+        let group = |group: &crate::calls::Group| (group.bench)(&mut Random::new(1, group.name));
+        let rows: Vec<Row> = GROUPS.iter().flat_map(group).collect();
+        let calls = GROUPS.iter().flat_map(|group| group.calls).map(|call| call.name);
+        let (mut calls, mut declared): (Vec<_>, _) = (calls.collect(), declared());
+        calls.sort_unstable();
+        declared.sort_unstable();
+        assert_eq!(declared.len(), 28);
+        assert_eq!(calls, declared);
+        for name in declared {
+            assert!(rows.iter().any(|row| row.of == Some(name)), "{name} is not timed");
+        }
+        for row in &rows {
+            assert_eq!(row.of.is_some(), row.by == "Moorspindle", "{}", row.call);
+            let beside = rows.iter().any(|other| other.call == row.call && other.of != row.of);
+            assert!(beside || row.call == "the loop alone", "{} stands alone", row.call);
+        }
+    }
+
+    #[test]
+    fn a_table_marks_where_moorspindle_is_slower() {
+        let row = |by| Row::over("key", by, &[()], |_| ());
+        let rows = [row("Moorspindle").of("discrete_hash_key"), row("a"), row("b"), row("c")];
+        let times = [3.0, 2.0, 3.0, 12_345.6].map(|time| [Some(time), None]);
+        let lines = table(&rows, &times);
+        assert_eq!(
+            lines[..2],
+            ["| call | by | ns a call | Moorspindle / this |", "|---|---|--:|--:|"]
+        );
+        assert_eq!(lines[2], "| key | Moorspindle | 3.00 |  |");
+        assert_eq!(lines[3], "| key | a | 2.00 | **1.50** |");
+        assert_eq!(lines[4], "| key | b | 3.00 | 1.00 |");
+        assert_eq!(lines[5], "| key | c | 12,346 | 0.00 |");
+    }
+
+    #[test]
+    fn the_chain_has_columns_of_its_own() {
+        let row = |by| Row::of_float("root", by, &[1.0], |x| x);
+        let rows = [row("Moorspindle").of("root"), row("a")];
+        let lines = table(&rows, &[[Some(1.0), Some(9.0)], [Some(2.0), Some(4.0)]]);
+        assert_eq!(lines[2], "| root | Moorspindle | 1.00 |  | 9.00 |  |");
+        assert_eq!(lines[3], "| root | a | 2.00 | 0.50 | 4.00 | **2.25** |");
+    }
+
+    #[test]
+    fn thousands_have_commas() {
+        let texts = [0.0, 999.4, 999.5, 89_206.0, 1_000_000.0].map(whole);
+        assert_eq!(texts, ["0", "999", "1,000", "89,206", "1,000,000"]);
+    }
 }

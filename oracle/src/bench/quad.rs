@@ -16,6 +16,13 @@ const FOURS: usize = 4_096;
 const LISTS: usize = 4;
 
 pub fn rows(random: &mut Random) -> Vec<Row> {
+    let mut rows = quads(random);
+    rows.extend(ends(random));
+    rows.extend(sets());
+    rows
+}
+
+fn quads(random: &mut Random) -> Vec<Row> {
     let signs: Vec<[f64; 4]> =
         (0..HASHES).map(|_| [(); 4].map(|()| random.between(-1.0, 1.0))).collect();
     let lists: Vec<Stars> = (0..LISTS).map(|_| field(random)).collect();
@@ -38,7 +45,8 @@ pub fn rows(random: &mut Random) -> Vec<Row> {
             let mut keys = keys.borrow_mut();
             ours::discrete_hash_key_neighbors(hash, &mut *keys);
             black_box(&*keys);
-        }),
+        })
+        .of("discrete_hash_key_neighbors"),
         Row::over("81 keys of a hash", "the Rust", &hashes, |hash| {
             black_box(&query::discrete_hash_key_neighbors(hash));
         }),
@@ -46,25 +54,31 @@ pub fn rows(random: &mut Random) -> Vec<Row> {
             let mut keys = keys_too.borrow_mut();
             ours::discrete_hash_key_neighbors(hash, &mut *keys);
             black_box(&*keys);
-        }),
+        })
+        .of("discrete_hash_key_neighbors"),
         Row::over("81 keys, all signs at random", "the Rust", &signs, |hash| {
             black_box(&query::discrete_hash_key_neighbors(hash));
         }),
-        Row::over("key of a hash", "Moorspindle", &hashes, |&hash| ours::discrete_hash_key(hash)),
+        Row::over("key of a hash", "Moorspindle", &hashes, |&hash| ours::discrete_hash_key(hash))
+            .of("discrete_hash_key"),
         Row::over("key of a hash", "the Rust", &hashes, query::discrete_hash_key),
-        Row::over("spine of 4 of 100", "Moorspindle", &fours, move |&places| spine(&all, places)),
+        Row::over("spine of 4 of 100", "Moorspindle", &fours, move |&places| spine(&all, places))
+            .of("find_spine"),
         Row::over("spine of 4 of 100", "the Rust", &fours, move |&places| {
             query::find_spine(&theirs_all, places.map(usize::from))
         }),
-        Row::over("spine of 4 of 4", "Moorspindle", &few, move |&places| spine(&some, places)),
+        Row::over("spine of 4 of 4", "Moorspindle", &few, move |&places| spine(&some, places))
+            .of("find_spine"),
         Row::over("spine of 4 of 4", "the Rust", &few, move |&places| {
             query::find_spine(&theirs_some, places.map(usize::from))
         }),
-        Row::over("hash of 4 of 100", "Moorspindle", &fours, move |&quad| hash(&all_too, quad)),
+        Row::over("hash of 4 of 100", "Moorspindle", &fours, move |&quad| hash(&all_too, quad))
+            .of("normalize_quad_ordered"),
         Row::over("hash of 4 of 100", "the Rust", &fours, move |&quad| {
             their_hash(&theirs_all_too, quad)
         }),
-        Row::over("hash of 4 of 4", "Moorspindle", &few, move |&quad| hash(&some_too, quad)),
+        Row::over("hash of 4 of 4", "Moorspindle", &few, move |&quad| hash(&some_too, quad))
+            .of("normalize_quad_ordered"),
         Row::over("hash of 4 of 4", "the Rust", &few, move |&quad| {
             their_hash(&theirs_some_too, quad)
         }),
@@ -72,11 +86,62 @@ pub fn rows(random: &mut Random) -> Vec<Row> {
             let (places, hashes, quads) = &mut *outputs.borrow_mut();
             ours::neighbor_quads(&stars.xs, &stars.ys, 10, 0.0, places, hashes, quads);
             black_box((places, hashes));
-        }),
+        })
+        .of("neighbor_quads"),
         Row::over("quads of 100, k = 10", "the Rust", &their_lists, |stars| {
             query::neighbor_quads(stars, 10, 0.0)
         }),
     ]
+}
+
+/// Which end of a spine is its first.
+fn ends(random: &mut Random) -> Vec<Row> {
+    let mut point = || (random.between(0.0, 4096.0), random.between(0.0, 4096.0));
+    let spines: Vec<_> = (0..FOURS).map(|_| [point(), point()]).collect();
+    let their_spines: Vec<[QuadStar; 2]> =
+        spines.iter().map(|ends| ends.map(|(x, y)| theirs::quad::star(x, y))).collect();
+    vec![
+        Row::over("ends of a spine", "Moorspindle", &spines, |&[(ax, ay), (bx, by)]| {
+            let mut pair = [0; 2];
+            ours::orient_spine((ax, ay, 7), (bx, by, 3), &mut pair);
+            pair
+        })
+        .of("orient_spine"),
+        Row::over("ends of a spine", "the Rust", &their_spines, |[a, b]| {
+            query::orient_spine(a, 7, b, 3)
+        }),
+    ]
+}
+
+/// The sets of four of so many places: the start, and a walk through all of them.
+fn sets() -> Vec<Row> {
+    let counts = [24; FOURS];
+    vec![
+        Row::over("start of the sets of 4 of 24", "Moorspindle", &counts, |&n| {
+            let mut state = [0; 5];
+            ours::combinations_4(n, &mut state);
+            state
+        })
+        .of("combinations_4"),
+        Row::over("start of the sets of 4 of 24", "the Rust", &counts, |&n| {
+            query::combinations_4(n as usize)
+        }),
+        Row::over("all 10,626 sets of 4 of 24", "Moorspindle", &counts[..1], |&n| walk(n))
+            .of("combinations_4_next"),
+        Row::over("all 10,626 sets of 4 of 24", "the Rust", &counts[..1], |&n| {
+            query::combinations_4(n as usize).map(black_box).count()
+        }),
+    ]
+}
+
+fn walk(n: u32) -> usize {
+    let (mut state, mut places, mut given) = ([0; 5], [0; 4], 1);
+    ours::combinations_4(n, &mut state);
+    let step = || {
+        ours::combinations_4_next(n, &mut state, &mut places, &mut given);
+        (given == 1).then(|| black_box(places))
+    };
+    std::iter::from_fn(step).count()
 }
 
 /// A hundred stars of a picture.

@@ -19,9 +19,13 @@ pub fn rows(random: &mut Random) -> Vec<Row> {
     vec![
         Row::over("record of order 5", "Moorspindle", &lists, move |list| {
             solution(list, ours::record::write_record)
-        }),
-        Row::over("record of order 5", "the oracle", &lists, move |list| {
-            solution(list, theirs::record::write_record)
-        }),
+        })
+        .of("write_record"),
+        Row::over(
+            "record of order 5",
+            "the oracle's own; the Rust has none",
+            &lists,
+            move |list| solution(list, theirs::record::write_record),
+        ),
     ]
 }

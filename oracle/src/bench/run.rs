@@ -30,7 +30,8 @@ pub fn rows(random: &mut Random) -> Vec<Row> {
             let (mut mask, mut ran) = ([0; 100], Ran { tested: 0, on: 0 });
             ours::run::ransac_fit(lists(plate), draw, &mut mask, &mut ran);
             mask
-        }),
+        })
+        .of("ransac_fit"),
         Row::over("run of 100, 1,000 trials", "the Rust", &plates, |plate| {
             fit_wcs::ransac_fit(&plate.rows, &plate.usizes, LIMIT)
         }),
@@ -44,7 +45,8 @@ pub fn rows(random: &mut Random) -> Vec<Row> {
             let (mut mask, mut cd) = ([1; 100], CD);
             ours::run::sigma_clip_loop_weighted(lists(plate), &mut mask, &mut cd, &plate.weights);
             (mask, cd)
-        }),
+        })
+        .of("sigma_clip_loop_weighted"),
         Row::over("clip of 100", "the Rust", &plates, |plate| {
             let (mut mask, mut cd) = ([true; 100], CD);
             let _ =

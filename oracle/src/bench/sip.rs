@@ -22,14 +22,15 @@ pub fn rows(random: &mut Random) -> Vec<Row> {
     let names = ["SIP fit, order 2", "SIP fit, order 3", "SIP fit, order 4", "SIP fit, order 5"];
     for (name, order) in names.into_iter().zip(2..) {
         let images: Vec<Image> = (0..LISTS).map(|_| image(random)).collect();
-        rows.push(Row::over(name, "Moorspindle", &images, move |image| {
+        let ours = Row::over(name, "Moorspindle", &images, move |image| {
             let room = terms(order);
             let mut lent =
                 Lent { a: vec![0.0; room], b: vec![0.0; room], rows_used: 0, sums: vec![0.0; 3] };
             let field = &image.field;
             ours::sip::fit_sip(field.lists(), &field.snr, &field.wcs, order, &mut lent);
             lent
-        }));
+        });
+        rows.push(ours.of("fit_sip"));
         rows.push(Row::over(name, "the Rust, its powers products", &images, move |image| {
             fit_wcs::fit_sip_in_order(&image.rows, &image.field.snr, wcs(image), order)
         }));

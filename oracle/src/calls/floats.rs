@@ -9,6 +9,7 @@ use crate::{edges, ours};
 
 pub const GROUP: Group = Group {
     name: "floats",
+    title: "The float helpers",
     calls: &[MAGNITUDE, FLOOR, ROOT, POWER],
     also: &[HARDWARE, SUBNORMAL, SOFTWARE],
     notes: |random| vec![distance_of_pow(random)],

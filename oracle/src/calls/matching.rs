@@ -12,6 +12,7 @@ use crate::{bench, edges, ours, theirs};
 
 pub const GROUP: Group = Group {
     name: "matching",
+    title: "From quads to the affine score",
     calls: &[FIND_MATCHES, EXTRACT_PAIRS, FIT_AFFINE_3PT, COUNT_AFFINE_INLIERS, VERIFY_PAIRS],
     also: &[MANY_QUADS, MILLION_FOUND, MILLION_VOTED, WHOLE_ROWS],
     notes: |_| Vec::new(),

@@ -38,8 +38,18 @@ pub struct Call {
     pub ours: fn(&Case) -> Answer,
 }
 
+impl Call {
+    /// It is one of the series of this call: their names start with the call's.
+    #[cfg(any(test, feature = "stack"))]
+    pub fn is_of(&self, call: &str) -> bool {
+        self.name.split([':', ',']).next() == Some(call)
+    }
+}
+
 pub struct Group {
     pub name: &'static str,
+    /// The heading of its times.
+    pub title: &'static str,
     pub calls: &'static [Call],
     /// More comparisons, with cases or answers from elsewhere: `compare` alone makes them.
     pub also: &'static [Call],

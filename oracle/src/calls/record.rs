@@ -13,6 +13,7 @@ use crate::{bench, edges, ours, theirs};
 
 pub const GROUP: Group = Group {
     name: "record",
+    title: "The record",
     calls: &[WRITE_RECORD],
     also: &[REAL_FITS],
     notes: |_| Vec::new(),

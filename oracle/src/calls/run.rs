@@ -16,6 +16,7 @@ use crate::{bench, ours, theirs};
 
 pub const GROUP: Group = Group {
     name: "run",
+    title: "The run and the clip",
     calls: &[RANSAC_FIT, SIGMA_CLIP],
     also: &[WHOLE_RUNS, WHOLE_CLIPS],
     notes: |_| Vec::new(),

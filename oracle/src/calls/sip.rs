@@ -16,6 +16,7 @@ use crate::{bench, edges, ours, theirs};
 
 pub const GROUP: Group = Group {
     name: "sip",
+    title: "The SIP fit",
     calls: &[FIT_SIP],
     also: &[REJECTING],
     notes: |random| (2..=5).map(|order| distance_of_untouched(random, order)).collect(),

@@ -2,6 +2,7 @@
 //! lent to be written overlaps nothing else.
 
 use super::matching::Rows;
+use crate::stack::called;
 
 #[link(name = "moorspindle", kind = "static")]
 unsafe extern "C" {
@@ -90,7 +91,7 @@ unsafe extern "C" {
 }
 
 pub fn fit_cd_matrix_6([px, py, xi, eta]: Rows, mask: &[u8], cd: &mut [f64]) -> u32 {
-    unsafe {
+    called(|| unsafe {
         moorspindle_fit_cd_matrix_6(
             px.as_ptr(),
             px.len(),
@@ -105,7 +106,7 @@ pub fn fit_cd_matrix_6([px, py, xi, eta]: Rows, mask: &[u8], cd: &mut [f64]) -> 
             cd.as_mut_ptr(),
             cd.len(),
         )
-    }
+    })
 }
 
 pub fn fit_cd_weighted(
@@ -114,7 +115,7 @@ pub fn fit_cd_weighted(
     weights: &[f64],
     cd: &mut [f64],
 ) -> u32 {
-    unsafe {
+    called(|| unsafe {
         moorspindle_fit_cd_weighted(
             px.as_ptr(),
             px.len(),
@@ -131,7 +132,7 @@ pub fn fit_cd_weighted(
             cd.as_mut_ptr(),
             cd.len(),
         )
-    }
+    })
 }
 
 pub fn compute_pixel_errors(
@@ -140,7 +141,7 @@ pub fn compute_pixel_errors(
     cd: &[f64],
     errors: &mut [f64],
 ) -> u32 {
-    unsafe {
+    called(|| unsafe {
         moorspindle_compute_pixel_errors(
             px.as_ptr(),
             px.len(),
@@ -157,7 +158,7 @@ pub fn compute_pixel_errors(
             errors.as_mut_ptr(),
             errors.len(),
         )
-    }
+    })
 }
 
 /// The lists that residuals are written into: err_x, err_y, err_px.
@@ -170,7 +171,7 @@ pub fn compute_residuals(
     residuals: &mut u64,
 ) -> u32 {
     let [err_x, err_y, err_px] = errors;
-    unsafe {
+    called(|| unsafe {
         moorspindle_compute_residuals(
             px.as_ptr(),
             px.len(),
@@ -190,15 +191,15 @@ pub fn compute_residuals(
             err_px.len(),
             residuals,
         )
-    }
+    })
 }
 
 pub fn rms_error(err_px: &[f64], rms: &mut f64) -> u32 {
-    unsafe { moorspindle_rms_error(err_px.as_ptr(), err_px.len(), rms) }
+    called(|| unsafe { moorspindle_rms_error(err_px.as_ptr(), err_px.len(), rms) })
 }
 
 pub fn weighted_rms_error(err_px: &[f64], weights: &[f64], rms: &mut f64) -> u32 {
-    unsafe {
+    called(|| unsafe {
         moorspindle_weighted_rms_error(
             err_px.as_ptr(),
             err_px.len(),
@@ -206,11 +207,11 @@ pub fn weighted_rms_error(err_px: &[f64], weights: &[f64], rms: &mut f64) -> u32
             weights.len(),
             rms,
         )
-    }
+    })
 }
 
 pub fn solve_normal_equations(a: &[f64], b: &[f64], n: u32, x: &mut [f64]) -> u32 {
-    unsafe {
+    called(|| unsafe {
         moorspindle_solve_normal_equations(
             a.as_ptr(),
             a.len(),
@@ -220,5 +221,5 @@ pub fn solve_normal_equations(a: &[f64], b: &[f64], n: u32, x: &mut [f64]) -> u3
             x.as_mut_ptr(),
             x.len(),
         )
-    }
+    })
 }

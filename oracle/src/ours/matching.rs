@@ -1,6 +1,8 @@
 //! hash_index.rs, aggregate.rs and verify.rs. Each pointer comes from a Rust reference and goes
 //! with its length, and what is lent to be written overlaps nothing else.
 
+use crate::stack::called;
+
 #[link(name = "moorspindle", kind = "static")]
 unsafe extern "C" {
     fn moorspindle_find_matches(
@@ -126,7 +128,7 @@ pub struct Pairs {
 pub type Rows<'a> = [&'a [f64]; 4];
 
 pub fn find_matches(image: Quads, catalogue: Quads, matches: &mut [u8], found: &mut u64) -> u32 {
-    unsafe {
+    called(|| unsafe {
         moorspindle_find_matches(
             image.places.as_ptr(),
             image.places.len(),
@@ -140,11 +142,11 @@ pub fn find_matches(image: Quads, catalogue: Quads, matches: &mut [u8], found: &
             matches.len(),
             found,
         )
-    }
+    })
 }
 
 pub fn extract_pairs(matches: &[u8], voters: Voters, out: &mut Pairs, pairs: &mut u64) -> u32 {
-    unsafe {
+    called(|| unsafe {
         moorspindle_extract_pairs(
             matches.as_ptr(),
             matches.len(),
@@ -178,12 +180,12 @@ pub fn extract_pairs(matches: &[u8], voters: Voters, out: &mut Pairs, pairs: &mu
             out.snr.len(),
             pairs,
         )
-    }
+    })
 }
 
 pub fn fit_affine_3pt([px, py, xi, eta]: Rows, places: [u8; 3], affine: &mut [f64]) -> u32 {
     let [a, b, c] = places;
-    unsafe {
+    called(|| unsafe {
         moorspindle_fit_affine_3pt(
             px.as_ptr(),
             px.len(),
@@ -199,7 +201,7 @@ pub fn fit_affine_3pt([px, py, xi, eta]: Rows, places: [u8; 3], affine: &mut [f6
             affine.as_mut_ptr(),
             affine.len(),
         )
-    }
+    })
 }
 
 pub fn count_affine_inliers(
@@ -208,7 +210,7 @@ pub fn count_affine_inliers(
     threshold: f64,
     inliers: &mut u64,
 ) -> u32 {
-    unsafe {
+    called(|| unsafe {
         moorspindle_count_affine_inliers(
             px.as_ptr(),
             px.len(),
@@ -223,11 +225,11 @@ pub fn count_affine_inliers(
             threshold,
             inliers,
         )
-    }
+    })
 }
 
 pub fn verify_pairs([px, py, xi, eta]: Rows, score: &mut u64) -> u32 {
-    unsafe {
+    called(|| unsafe {
         moorspindle_verify_pairs(
             px.as_ptr(),
             px.len(),
@@ -239,5 +241,5 @@ pub fn verify_pairs([px, py, xi, eta]: Rows, score: &mut u64) -> u32 {
             eta.len(),
             score,
         )
-    }
+    })
 }

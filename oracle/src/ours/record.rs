@@ -1,6 +1,8 @@
 //! The record. Each pointer comes from a Rust reference and goes with its length, and what is lent to
 //! be written overlaps nothing else.
 
+use crate::stack::called;
+
 #[link(name = "moorspindle", kind = "static")]
 unsafe extern "C" {
     fn moorspindle_write_record(
@@ -32,7 +34,7 @@ pub struct Solution<'a> {
 }
 
 pub fn write_record(of: Solution, text: &mut [u8], written: &mut u64) -> u32 {
-    unsafe {
+    called(|| unsafe {
         moorspindle_write_record(
             of.rows_used,
             of.wcs.as_ptr(),
@@ -48,5 +50,5 @@ pub fn write_record(of: Solution, text: &mut [u8], written: &mut u64) -> u32 {
             text.len(),
             written,
         )
-    }
+    })
 }

@@ -2,6 +2,7 @@
 //! what is lent to be written overlaps nothing else.
 
 use super::matching::Rows;
+use crate::stack::called;
 
 #[link(name = "moorspindle", kind = "static")]
 unsafe extern "C" {
@@ -57,7 +58,7 @@ pub struct Ran {
 }
 
 pub fn ransac_fit([px, py, xi, eta]: Rows, draw: Draw, mask: &mut [u8], ran: &mut Ran) -> u32 {
-    unsafe {
+    called(|| unsafe {
         moorspindle_ransac_fit(
             px.as_ptr(),
             px.len(),
@@ -76,7 +77,7 @@ pub fn ransac_fit([px, py, xi, eta]: Rows, draw: Draw, mask: &mut [u8], ran: &mu
             &mut ran.tested,
             &mut ran.on,
         )
-    }
+    })
 }
 
 pub fn sigma_clip_loop_weighted(
@@ -85,7 +86,7 @@ pub fn sigma_clip_loop_weighted(
     cd: &mut [f64],
     weights: &[f64],
 ) -> u32 {
-    unsafe {
+    called(|| unsafe {
         moorspindle_sigma_clip_loop_weighted(
             px.as_ptr(),
             px.len(),
@@ -102,5 +103,5 @@ pub fn sigma_clip_loop_weighted(
             weights.as_ptr(),
             weights.len(),
         )
-    }
+    })
 }

@@ -2,6 +2,7 @@
 //! be written overlaps nothing else.
 
 use super::matching::Rows;
+use crate::stack::called;
 
 #[link(name = "moorspindle", kind = "static")]
 unsafe extern "C" {
@@ -45,7 +46,7 @@ pub fn fit_sip(
     order: u32,
     lent: &mut Lent,
 ) -> u32 {
-    unsafe {
+    called(|| unsafe {
         moorspindle_fit_sip(
             px.as_ptr(),
             px.len(),
@@ -68,5 +69,5 @@ pub fn fit_sip(
             lent.sums.as_mut_ptr(),
             lent.sums.len(),
         )
-    }
+    })
 }

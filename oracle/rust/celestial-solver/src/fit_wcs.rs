@@ -2,7 +2,8 @@
 
 use crate::match_field::StarPair;
 use crate::{pair, Fit, Row};
-use solution::{StarResidual, WcsSolution};
+pub use solution::StarResidual;
+use solution::WcsSolution;
 
 include!(concat!(env!("OUT_DIR"), "/solution.rs"));
 
@@ -152,15 +153,36 @@ pub mod wrong {
         [rounds_9::clip, rounds_11::clip, square_first::clip, at_threshold::clip];
 }
 
+/// A WCS as a text of cd_matrix.rs has it.
+macro_rules! wcs_params {
+    ($text:ident, $wcs:expr) => {{
+        let [crpix1, crpix2, cd1_1, cd1_2, cd2_1, cd2_2] = $wcs;
+        let (crval_ra, crval_dec) = (0.0, 0.0);
+        $text::WcsParams { crpix1, crpix2, crval_ra, crval_dec, cd1_1, cd1_2, cd2_1, cd2_2 }
+    }};
+}
+
 /// One text of cd_matrix.rs with a root of its own, and what takes roots in it, to be timed.
 macro_rules! with_root {
     ($module:ident, $file:literal) => {
         pub mod $module {
-            use super::{plain, solution, voted, Cd};
+            use super::{plain, solution, voted, Cd, StarPair, StarResidual, Wcs};
             use crate::{Fit, Row};
 
             mod text {
                 include!(concat!(env!("OUT_DIR"), $file));
+            }
+
+            pub fn residuals_of(pairs: &[&StarPair], wcs: Wcs) -> Vec<StarResidual> {
+                text::compute_residuals(pairs, wcs_params!(text, wcs))
+            }
+
+            pub fn rms_of(residuals: &[StarResidual]) -> f64 {
+                text::rms_error(residuals)
+            }
+
+            pub fn weighted_rms_of(residuals: &[StarResidual], weights: &[f64]) -> f64 {
+                text::weighted_rms_error(residuals, weights)
             }
 
             pub fn compute_pixel_errors(rows: &[Row], mask: &[bool], cd: Cd) -> Vec<f64> {
@@ -193,21 +215,28 @@ with_root!(software, "/cd_matrix_software.rs");
 
 /// err_x, err_y, err_px of each row.
 pub fn compute_residuals(rows: &[Row], wcs: Wcs) -> Vec<[f64; 3]> {
-    let pairs: Vec<StarPair> = rows.iter().map(|&row| pair(row, 0, 0.0)).collect();
-    let [crpix1, crpix2, cd1_1, cd1_2, cd2_1, cd2_2] = wcs;
-    let wcs = cd_matrix::WcsParams {
-        crpix1,
-        crpix2,
-        crval_ra: 0.0,
-        crval_dec: 0.0,
-        cd1_1,
-        cd1_2,
-        cd2_1,
-        cd2_2,
-    };
-    let residuals = cd_matrix::compute_residuals(&pairs.iter().collect::<Vec<_>>(), wcs);
+    let pairs = pairs_of_rows(rows);
+    let residuals = residuals_of(&pairs.iter().collect::<Vec<_>>(), wcs);
     let errors = |r: &StarResidual| [r.err_x, r.err_y, r.err_px];
     residuals.iter().map(errors).collect()
+}
+
+/// The rows as the Rust's own lists have them. These and the next three are its calls with nothing
+/// made on the way, to be timed.
+pub fn pairs_of_rows(rows: &[Row]) -> Vec<StarPair> {
+    rows.iter().map(|&row| pair(row, 0, 0.0)).collect()
+}
+
+pub fn residuals_of(pairs: &[&StarPair], wcs: Wcs) -> Vec<StarResidual> {
+    cd_matrix::compute_residuals(pairs, wcs_params!(cd_matrix, wcs))
+}
+
+pub fn rms_of(residuals: &[StarResidual]) -> f64 {
+    cd_matrix::rms_error(residuals)
+}
+
+pub fn weighted_rms_of(residuals: &[StarResidual], weights: &[f64]) -> f64 {
+    cd_matrix::weighted_rms_error(residuals, weights)
 }
 
 /// Only err_px is read by the two rms.
