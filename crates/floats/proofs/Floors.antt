@@ -1,22 +1,22 @@
--- The floor of a float, and the floor held to the range of an i32, by the tests that the code makes. Assumes nothing.
+-- The floor of a float, and the floor held to the range of an i32, inside of the range and out of it. Assumes nothing.
 use mathlib.Core.Path.{_≡_, refl, sym, ap, _∙_, subst}
-use mathlib.Core.Logic.{inl, inr}
 use mathlib.Core.Bool.{Bool, true, false, cond, _&&_, true≢false}
 use Prim.Native.Nat.{ℕ, zero, suc, _+_, _-_, _*_, _/_, _%_, _^_, _≤_, _<_, min}
-use native.Mathlib.Nat.{mul-one, mul-assoc, zero-mul, div-one, div-eq-of-lt, le-of-eq, le-of-lt, lt-of-le-of-lt, lt-irrefl, le-div-iff-mul-le, mul-pos, zero-lt-suc, add-zero, mul-lt-mul-of-pos-right}
+use native.Mathlib.Nat.{mul-one, mul-assoc, div-one, le-trans, lt-irrefl, le-div-iff-mul-le, mul-pos, zero-lt-suc, add-zero, pow-suc, mul-lt-mul-of-pos-right}
 use native.Mathlib.Omega.{arith}
+use borrow.Author.Tests.{ltb-false}
 use lib.IntN.{ℤ, pos, negsuc, negℤ}
 use lib.Dec.{T, ltb, leb, eqb, ltb→lt}
 use lib.Pow.{pow-add, pow-pos}
-use lib.Ieee.{Float, nan, inf, fin, binary64, up, down, neg, lt, fits, ofInt, round}
-use lib.Ieee.Fits.{down-pos, and-l, and-r, neg-fits, round-fits}
+use lib.Ieee.{Float, nan, inf, fin, binary64, up, down, neg, lt, eq, fits, ofInt, round}
+use lib.Ieee.Compare.{differs-from-itself}
+use lib.Ieee.Fits.{up-pos, down-pos, and-l, and-r, neg-fits, round-fits}
 use lib.Ieee.Exact.{HasValue, round-exact}
 use lib.Ieee.Back.{round-whole, whole-unique}
-use lib.Ieee.Positive.{num, den, positive, den-pos}
+use lib.Ieee.Positive.{num, den, positive}
 use Rattle.floats.specs.Floor.{ceilDiv, floorOf}
-use Rattle.floats.proofs.Tests.{clash, zero-float, above-zero, below-zero, inf-above, inf-below}
-use Rattle.floats.proofs.Division.{ceil-le, ceil-ge, capped, at-cap}
-use Rattle.floats.proofs.Fractions.{Within, Beyond, whole-lt}
+use Rattle.floats.proofs.Tests.{yes, differs}
+use Rattle.floats.proofs.Division.{ceil-ge, at-cap}
 
 -- ---- the floor of a value by its fraction
 
@@ -35,6 +35,17 @@ floor-negative (inf s) p = absurd p
 floor-negative (fin true m e) p = absurd p
 floor-negative (fin false zero e) p = absurd p
 floor-negative (fin false (suc m) e) p = refl
+
+pub num-above : (x : Float) → T (positive x) → 0 < num x
+num-above nan p = absurd p
+num-above (inf s) p = absurd p
+num-above (fin true m e) p = absurd p
+num-above (fin false m e) p = mul-pos (ltb→lt 0 m p) (up-pos e)
+
+-- a whole number as a float
+pub of-whole : (n : ℕ) → n ≤ 2 ^ 53 → HasValue (ofInt binary64 (pos n)) false n 1
+unfolding ofInt
+of-whole n h = round-whole binary64 false n h
 
 -- the negation of a whole number from 1 on
 pub neg-value : (v : Float) (n c : ℕ) → HasValue v false n c → HasValue (neg v) true n c
@@ -57,16 +68,16 @@ neg-whole (suc n) l h =
 
 -- ---- from 2 ^ 53 on every value is whole
 
--- m * 2 ^ e with m below 2 ^ 53 reaches 2 ^ 53 only for an e from 0 on
-reaches : (m : ℕ) (e : ℤ) → m < 2 ^ 53 → 2 ^ 53 * down e ≤ m * up e → (k : ℕ) × (e ≡ pos k)
+-- m * 2 ^ e with m below 2 ^ 53 reaches 2 ^ 52 only for an e from 0 on
+pub reaches : (m : ℕ) (e : ℤ) → m < 2 ^ 53 → 2 ^ 52 * down e ≤ m * up e → (k : ℕ) × (e ≡ pos k)
 reaches m (pos k) h l = (k, refl)
-reaches m (negsuc k) h l = absurd (go m (2 ^ suc k) (pow-pos (suc k)) h l)
+reaches m (negsuc k) h l = absurd (go m (2 ^ k) (2 ^ suc k) (pow-pos k) (pow-suc 2 k) h l)
   where
-    go : (m d : ℕ) → 0 < d → m < 9007199254740992 → 9007199254740992 * d ≤ m * 1 → ⊥
-    go m d p a b = omega arith
+    go : (m b d : ℕ) → 0 < b → d ≡ b * 2 → m < 9007199254740992 → 4503599627370496 * d ≤ m * 1 → ⊥
+    go m b d p e a l = omega arith
 
 -- the parts of what `fits` tests
-fits-parts : (s : Bool) (m : ℕ) (e : ℤ) → T (fits binary64 (fin s (suc m) e)) → (suc m < 2 ^ 53) × (suc m * up e < 2 ^ 1024 * down e)
+pub fits-parts : (s : Bool) (m : ℕ) (e : ℤ) → T (fits binary64 (fin s (suc m) e)) → (suc m < 2 ^ 53) × (suc m * up e < 2 ^ 1024 * down e)
 unfolding fits
 fits-parts s m e h =
     let A = eqb (suc m % 2) 1 in
@@ -106,33 +117,27 @@ floor-whole true m k f =
 
 floor-large : (s : Bool) (m : ℕ) (e : ℤ) → T (fits binary64 (fin s (suc m) e)) → 2 ^ 53 * down e ≤ suc m * up e → fin s (suc m) e ≡ floorOf (fin s (suc m) e)
 floor-large s m e f l =
-    let k = reaches (suc m) e (fits-parts s m e f .0) l in
+    let k = reaches (suc m) e (fits-parts s m e f .0) (le-trans (less (down e)) l) in
     subst (λ (d : ℤ). fin s (suc m) d ≡ floorOf (fin s (suc m) d)) (sym (k .1)) (floor-whole s m (k .0) (subst (λ (d : ℤ). T (fits binary64 (fin s (suc m) d))) (k .1) f))
+  where
+    less : (d : ℕ) → 4503599627370496 * d ≤ 9007199254740992 * d
+    less d = omega arith
 
-inf-floor : (s : Bool) → inf s ≡ floorOf (inf s)
-unfolding floorOf
-inf-floor s = refl
+pub floor-high : (x : Float) → T (fits binary64 x) → T (positive x) → 2 ^ 53 * den x ≤ num x → x ≡ floorOf x
+floor-high nan f p h = absurd p
+floor-high (inf s) f p h = absurd p
+floor-high (fin true m e) f p h = absurd p
+floor-high (fin false zero e) f p h = absurd p
+floor-high (fin false (suc m) e) f p h = floor-large false m e f h
 
-pub floor-high : (x : Float) → T (fits binary64 x) → Beyond (2 ^ 53) x → x ≡ floorOf x
-floor-high x f (inl e) = subst (λ (v : Float). v ≡ floorOf v) (sym e) (inf-floor false)
-floor-high nan f (inr h) = absurd (h .0)
-floor-high (inf s) f (inr h) = absurd (h .0)
-floor-high (fin true m e) f (inr h) = absurd (h .0)
-floor-high (fin false zero e) f (inr h) = absurd (h .0)
-floor-high (fin false (suc m) e) f (inr h) = floor-large false m e f (h .1)
-
--- of -y, for a y from 2 ^ 53 on
-negative-high : (y : Float) → T (fits binary64 (neg y)) → Beyond (2 ^ 53) y → neg y ≡ floorOf (neg y)
+-- of -y
+pub floor-under : (y : Float) → T (fits binary64 (neg y)) → T (positive y) → 2 ^ 53 * den y ≤ num y → neg y ≡ floorOf (neg y)
 unfolding neg
-negative-high y f (inl e) = subst (λ (v : Float). neg v ≡ floorOf (neg v)) (sym e) (inf-floor true)
-negative-high nan f (inr h) = absurd (h .0)
-negative-high (inf s) f (inr h) = absurd (h .0)
-negative-high (fin true m e) f (inr h) = absurd (h .0)
-negative-high (fin false zero e) f (inr h) = absurd (h .0)
-negative-high (fin false (suc m) e) f (inr h) = floor-large true m e f (h .1)
-
-pub floor-under : (x y : Float) → neg y ≡ x → T (fits binary64 x) → Beyond (2 ^ 53) y → x ≡ floorOf x
-floor-under x y n f h = subst (λ (v : Float). v ≡ floorOf v) n (negative-high y (subst (λ (v : Float). T (fits binary64 v)) (sym n) f) h)
+floor-under nan f p h = absurd p
+floor-under (inf s) f p h = absurd p
+floor-under (fin true m e) f p h = absurd p
+floor-under (fin false zero e) f p h = absurd p
+floor-under (fin false (suc m) e) f p h = floor-large true m e f h
 
 -- ---- held to the range of an i32
 
@@ -161,40 +166,47 @@ held-negative (inf s) p = absurd p
 held-negative (fin true m e) p = absurd p
 held-negative (fin false m e) p = refl
 
-held-inf : (s : Bool) → cond s (negsuc 2147483647) (pos 2147483647) ≡ heldFloor (inf s)
-unfolding heldFloor
-held-inf true = refl
-held-inf false = refl
+-- ---- out of the range
 
-pub held-low : (x : Float) (u : ℕ) → Within (2 ^ 31 - 1) x → u ≡ num x / den x → pos u ≡ heldFloor x
-held-low x u w e = ap pos e ∙ sym (held-positive x (w .0) ∙ ap pos (capped (num x / den x) (2 ^ 31 - 1) (le-of-lt (whole-lt (2 ^ 31 - 1) x w))))
+-- 2 ^ 31 - 1 and -2 ^ 31
+abbrev pub most : Float
+most = fin false 2147483647 (pos 0)
 
-pub held-high : (x : Float) → Beyond (2 ^ 31 - 1) x → pos 2147483647 ≡ heldFloor x
-held-high x (inl e) = held-inf false ∙ ap heldFloor (sym e)
-held-high x (inr h) = sym (held-positive x (h .0) ∙ ap pos (at-cap (num x / den x) (2 ^ 31 - 1) (le-div-iff-mul-le (den-pos x) .1 (h .1))))
+abbrev pub least : Float
+least = fin true 1 (pos 31)
 
-pub held-below : (x y : Float) (u : ℕ) → neg y ≡ x → Within (2 ^ 31) y → u ≡ ceilDiv (num y) (den y) → negℤ (pos u) ≡ heldFloor x
-held-below x y u n w e =
-    ap (λ (k : ℕ). negℤ (pos k)) e
-    ∙ sym (sym (ap heldFloor n) ∙ held-negative y (w .0) ∙ ap (λ (k : ℕ). negℤ (pos k)) (capped (ceilDiv (num y) (den y)) (2 ^ 31) (ceil-le (num y) (den y) (den-pos y) (2 ^ 31) (le-of-lt (w .1)))))
-
-neg-inf : neg (inf false) ≡ inf true
-unfolding neg
-neg-inf = refl
-
-pub held-under : (x y : Float) → neg y ≡ x → Beyond (2 ^ 31) y → negsuc 2147483647 ≡ heldFloor x
-held-under x y n (inl e) = held-inf true ∙ ap heldFloor (sym neg-inf ∙ ap neg (sym e) ∙ n)
-held-under x y n (inr h) = sym (sym (ap heldFloor n) ∙ held-negative y (h .0) ∙ ap (λ (k : ℕ). negℤ (pos k)) (at-cap (ceilDiv (num y) (den y)) (2 ^ 31) (ceil-ge (num y) (den y) (den-pos y) (2 ^ 31) (h .1))))
-
-pub held-none : (x : Float) → lt zero-float x ≡ false → lt x zero-float ≡ false → pos 0 ≡ heldFloor x
-unfolding heldFloor
-held-none nan a b = refl
-held-none (inf true) a b = absurd (clash inf-below b)
-held-none (inf false) a b = absurd (clash inf-above a)
-held-none (fin true zero e) a b = sym (ap (λ (n : ℕ). negℤ (pos (min n (2 ^ 31)))) (div-eq-of-lt (go (0 * up e) (down e) (zero-mul (up e)) (down-pos e))))
+pub held-high : (x : Float) → lt x most ≡ false → eq x x ≡ true → pos 2147483647 ≡ heldFloor x
+unfolding heldFloor lt eq
+held-high nan a b = absurd (true≢false (sym b))
+held-high (inf true) a b = absurd (true≢false a)
+held-high (inf false) a b = refl
+held-high (fin true m e) a b = absurd (go (m * up e) (down e) (down-pos e) (ltb-false 0 (m * up e * 1 + 2147483647 * 1 * down e) a))
   where
-    go : (a d : ℕ) → a ≡ 0 → 0 < d → a + (d - 1) < d
-    go a d e p = omega arith
-held-none (fin false zero e) a b = sym (ap (λ (n : ℕ). pos (min n (2 ^ 31 - 1))) (div-eq-of-lt (lt-of-le-of-lt (le-of-eq (zero-mul (up e))) (down-pos e))))
-held-none (fin true (suc m) e) a b = absurd (clash (below-zero m e) b)
-held-none (fin false (suc m) e) a b = absurd (clash (above-zero m e) a)
+    go : (a d : ℕ) → 0 < d → a * 1 + 2147483647 * 1 * d ≤ 0 → ⊥
+    go a d p h = omega arith
+held-high (fin false m e) a b = sym (ap pos (at-cap (m * up e / down e) (2 ^ 31 - 1) (le-div-iff-mul-le (down-pos e) .1 (go (m * up e) (down e) (ltb-false (m * up e * 1) (2147483647 * 1 * down e) a)))))
+  where
+    go : (a d : ℕ) → 2147483647 * 1 * d ≤ a * 1 → 2147483647 * d ≤ a
+    go a d h = omega arith
+
+pub held-under : (x : Float) → lt x most ≡ true → lt least x ≡ false → negsuc 2147483647 ≡ heldFloor x
+unfolding heldFloor lt
+held-under nan a b = absurd (true≢false (sym a))
+held-under (inf true) a b = refl
+held-under (inf false) a b = absurd (true≢false (sym a))
+held-under (fin true m e) a b =
+    sym (ap (λ (n : ℕ). negℤ (pos n)) (at-cap (ceilDiv (m * up e) (down e)) (2 ^ 31) (ceil-ge (m * up e) (down e) (down-pos e) (2 ^ 31) (go (m * up e) (down e) (ltb-false (m * up e * 1) (1 * 2 ^ 31 * down e) b)))))
+  where
+    go : (a d : ℕ) → 2147483648 * d ≤ a * 1 → 2147483648 * d ≤ a
+    go a d h = omega arith
+held-under (fin false m e) a b = absurd (go (m * up e) (down e) (down-pos e) (ltb-false 0 (1 * 2 ^ 31 * down e + m * up e * 1) b))
+  where
+    go : (a d : ℕ) → 0 < d → 2147483648 * d + a * 1 ≤ 0 → ⊥
+    go a d p h = omega arith
+
+nan-held : pos 0 ≡ heldFloor nan
+unfolding heldFloor
+nan-held = refl
+
+pub held-none : (x : Float) → eq x x ≡ false → pos 0 ≡ heldFloor x
+held-none x h = nan-held ∙ ap heldFloor (sym (differs-from-itself x (yes (differs x h))))

@@ -1,6 +1,5 @@
 -- `heldFloor x` is `toSigned 31 (floorOf x)`: the floor cut by `as i32`. Assumes nothing.
 use mathlib.Core.Path.{_≡_, refl, sym, ap, _∙_}
-use mathlib.Core.Logic.{inr}
 use mathlib.Core.Bool.{Bool, true, false, cond}
 use Prim.Native.Nat.{ℕ, zero, suc, _+_, _-_, _*_, _/_, _^_, _≤_, _<_, min}
 use native.Mathlib.Nat.{mul-one, mul-div-cancel, le-trans, le-of-lt, lt-of-not-le, le-div-iff-mul-le, zero-lt-suc, zero-mul, div-eq-of-lt, lt-of-le-of-lt, le-of-eq}
@@ -14,8 +13,7 @@ use lib.Ieee.Exact.{HasValue}
 use lib.Ieee.Positive.{num, den, positive, den-pos}
 use Rattle.floats.specs.Floor.{ceilDiv, floorOf}
 use Rattle.floats.proofs.Division.{ceil-le, ceil-ge, ceil-some, at-cap}
-use Rattle.floats.proofs.Fractions.{of-whole, num-above}
-use Rattle.floats.proofs.Floors.{heldFloor, floor-positive, floor-negative, floor-high, floor-under, held-positive, held-negative, neg-value, neg-whole}
+use Rattle.floats.proofs.Floors.{heldFloor, num-above, of-whole, floor-positive, floor-negative, floor-high, floor-under, held-positive, held-negative, neg-value, neg-whole}
 
 -- `as i32` of a whole number
 as-i32 : (v : Float) (s : Bool) (n : ℕ) → HasValue v s n 1 → toSigned 31 v ≡ cond s (negℤ (pos (min n (2 ^ 31)))) (pos (min n (2 ^ 31 - 1)))
@@ -44,7 +42,7 @@ at-positive : (x : Float) → T (fits binary64 x) → T (positive x) → heldFlo
 at-positive x f p = go (decLe (2 ^ 53 * den x) (num x))
   where
     go : Dec (2 ^ 53 * den x ≤ num x) → heldFloor x ≡ toSigned 31 (floorOf x)
-    go (yes h) = held-positive x p ∙ sym (cut-positive x p) ∙ ap (toSigned 31) (floor-high x f (inr (p, h)))
+    go (yes h) = held-positive x p ∙ sym (cut-positive x p) ∙ ap (toSigned 31) (floor-high x f p h)
     go (no n) =
         let w = num x / den x in
         let small : w ≤ 2 ^ 53 = le-of-lt (lt-of-not-le (λ (g : 2 ^ 53 ≤ w). n (le-div-iff-mul-le (den-pos x) .0 g))) in
@@ -62,7 +60,7 @@ at-negative y f p = go (decLe (2 ^ 53 * den y) (num y))
         held-negative y p
         ∙ ap (λ (k : ℕ). negℤ (pos k)) (at-cap (ceilDiv (num y) (den y)) (2 ^ 31) (ceil-ge (num y) (den y) (den-pos y) (2 ^ 31) d) ∙ sym (at-cap (num y / den y) (2 ^ 31) (le-div-iff-mul-le (den-pos y) .1 d)))
         ∙ sym (cut-negative y p)
-        ∙ ap (toSigned 31) (floor-under (neg y) y refl f (inr (p, h)))
+        ∙ ap (toSigned 31) (floor-under y f p h)
       where
         less : (d : ℕ) → 2147483648 * d ≤ 9007199254740992 * d
         less d = omega arith

@@ -1,6 +1,5 @@
 pub mod Tests
 pub mod Division
-pub mod Fractions
 pub mod Floors
 pub mod Held
 pub mod Signed
@@ -9,6 +8,8 @@ pub mod Divided
 pub mod Brought
 pub mod Halves
 pub mod Patterns
+pub mod Wholes
+pub mod Inside
 pub mod Signs
 pub mod Grid
 pub mod Computed

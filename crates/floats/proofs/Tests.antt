@@ -1,4 +1,4 @@
--- What the tests `x < 0.0`, `x == 0.0` and `x > 0.0` say of a float, by its cases. Assumes nothing.
+-- What the tests `x < 0.0` and `x == 0.0` say of a float, by its cases. Assumes nothing.
 use mathlib.Core.Path.{_≡_, refl, sym, ap, subst}
 use mathlib.Core.Bool.{Bool, true, false, not, _&&_, _||_}
 use Prim.Native.Nat.{ℕ, suc, _+_, _*_, _≤_, _<_}
@@ -7,7 +7,7 @@ use native.Mathlib.Omega.{arith}
 use borrow.Author.Tests.{lt-ltb, le-ltb, ne-eqb}
 use lib.IntN.{ℤ}
 use lib.Dec.{T, eqb}
-use lib.Ieee.{Float, nan, inf, fin, binary64, up, down, isNan, ofBits, lt, eq, ne, neg}
+use lib.Ieee.{Float, nan, inf, fin, binary64, up, down, isNan, ofBits, lt, eq, ne}
 use lib.Ieee.Fits.{up-pos}
 use lib.Ieee.Compare.{nan-differs}
 
@@ -53,14 +53,6 @@ zero-equal s e = go s (0 * up e * 1) (0 * 1 * down e) (left (up e)) (right (down
     go true a b p q = rw (p, q)
     go false a b p q = rw (p, q)
 
-pub zero-not-above : (s : Bool) (e : ℤ) → lt zero-float (fin s 0 e) ≡ false
-unfolding lt ofBits
-zero-not-above true e = refl
-zero-not-above false e = le-ltb (0 * 1 * down e) (0 * up e * 1) (go (up e) (down e))
-  where
-    go : (u d : ℕ) → 0 * u * 1 ≤ 0 * 1 * d
-    go u d = omega arith
-
 -- ---- a number above zero
 
 pub above-not-below : (m : ℕ) (e : ℤ) → lt (fin false m e) zero-float ≡ false
@@ -77,13 +69,6 @@ other-not-zero s m e = rw (ne-eqb (suc m * up e * 1) (0 * 1 * down e) (go (suc m
     go : (a d : ℕ) → 0 < a → a * 1 ≡ 0 * 1 * d → ⊥
     go a d p h = omega arith
 
-pub above-zero : (m : ℕ) (e : ℤ) → lt zero-float (fin false (suc m) e) ≡ true
-unfolding lt ofBits
-above-zero m e = lt-ltb (0 * 1 * down e) (suc m * up e * 1) (go (suc m * up e) (down e) (some m e))
-  where
-    go : (a d : ℕ) → 0 < a → 0 * 1 * d < a * 1
-    go a d p = omega arith
-
 -- ---- a number below zero
 
 pub below-zero : (m : ℕ) (e : ℤ) → lt (fin true (suc m) e) zero-float ≡ true
@@ -92,10 +77,6 @@ below-zero m e = lt-ltb 0 (suc m * up e * 1 + 0 * 1 * down e) (go (suc m * up e)
   where
     go : (a d : ℕ) → 0 < a → 0 < a * 1 + 0 * 1 * d
     go a d p = omega arith
-
-pub below-not-above : (m : ℕ) (e : ℤ) → lt zero-float (fin true m e) ≡ false
-unfolding lt ofBits
-below-not-above m e = refl
 
 -- ---- infinities and NaN
 
@@ -107,14 +88,6 @@ pub inf-not-below : lt (inf false) zero-float ≡ false
 unfolding lt ofBits
 inf-not-below = refl
 
-pub inf-above : lt zero-float (inf false) ≡ true
-unfolding lt ofBits
-inf-above = refl
-
-pub inf-not-above : lt zero-float (inf true) ≡ false
-unfolding lt ofBits
-inf-not-above = refl
-
 pub inf-not-zero : (s : Bool) → eq (inf s) zero-float ≡ false
 unfolding eq ofBits
 inf-not-zero s = refl
@@ -122,10 +95,6 @@ inf-not-zero s = refl
 pub nan-not-below : lt nan zero-float ≡ false
 unfolding lt
 nan-not-below = refl
-
-pub nan-not-above : lt zero-float nan ≡ false
-unfolding lt ofBits
-nan-not-above = refl
 
 pub nan-not-zero : eq nan zero-float ≡ false
 unfolding eq
@@ -141,11 +110,3 @@ unfolding isNan
 is-no-nan nan h = no h (yes nan-differs)
 is-no-nan (inf s) h = tt
 is-no-nan (fin s m e) h = tt
-
-pub neg-neg : (x : Float) → neg (neg x) ≡ x
-unfolding neg
-neg-neg nan = refl
-neg-neg (inf true) = refl
-neg-neg (inf false) = refl
-neg-neg (fin true m e) = refl
-neg-neg (fin false m e) = refl

@@ -1,11 +1,12 @@
 // The float helpers of the solver: magnitude, floor, square root and whole powers, on every f64.
 ghost use mathlib.Core.Path.{_≡_};
+ghost use mathlib.Core.Bool.{true, false};
 ghost use Prim.Native.Nat.{ℕ, _+_, _*_, _^_, _≤_, _<_};
 ghost use lib.Dec.{T};
-ghost use lib.Ieee.{toSigned};
-ghost use lib.Ieee.Positive.{positive, num, den};
+ghost use lib.IntN.{pos};
+ghost use lib.Ieee.{fin, lt, toSigned};
 ghost use Rattle.floats.specs.Magnitude.{magnitudeOf};
-ghost use Rattle.floats.specs.Floor.{ceilDiv, floorOf};
+ghost use Rattle.floats.specs.Floor.{floorOf};
 ghost use Rattle.floats.specs.Power.{powerOf};
 ghost use Rattle.floats.specs.Root.{rootOf, IsRoot};
 ghost use Rattle.floats.specs.Steps.{Halfway, unitsAt, Scaled53, Rooted};
@@ -20,31 +21,30 @@ pub fn magnitude(x: f64) -> f64
     x
 }
 
-// The least whole number that is not below x, for an x above 0 and below 2^31.
-fn ceiling(x: f64) -> u64
-    requires { ⌜ T (positive x) × (num x < 2 ^ 31 * den x) ⌝ }
-    ensures { λ r. ⌜ (r ≡ ceilDiv (num x) (den x)) × (1 ≤ r) × (r ≤ 2 ^ 31) ⌝ }
+// The greatest whole number that is not above x, for an x above -2^31 and below 2^31 - 1.
+fn floor_inside(x: f64) -> i32
+    requires { ⌜ T (lt (fin true 1 (pos 31)) x) × T (lt x (fin false 2147483647 (pos 0))) ⌝ }
+    ensures { λ r. ⌜ r ≡ toSigned 31 (floorOf x) ⌝ }
 {
-    let whole = std::num::truncating_f64_to_u64(x);
-    if (whole as f64) < x { whole + 1 } else { whole }
+    // at 1.5 * 2^52 the f64 are the whole numbers: the sum is one beside x, and its pattern counts them
+    let z = x + 6755399441055744.0;
+    let n = (f64::to_bits(z) as i64 - 0x4338_0000_0000_0000) as i32;
+    if z - 6755399441055744.0 > x { n - 1 } else { n }
 }
 
-// The greatest whole number that is not above x, held to the range of an i32; 0 for a NaN.
+// The greatest whole number that is not above x, held to the range of an i32; 0 for a NaN. It jumps only
+// where x is out of that range, and never on the sign.
 pub fn floor(x: f64) -> i32
     ensures { λ r. ⌜ r ≡ toSigned 31 (floorOf x) ⌝ }
 {
-    if x > 0.0 {
-        if x < 2147483647.0 {
-            return std::num::truncating_f64_to_u64(x) as i32;
-        }
-        return 2147483647;
-    }
-    if x < 0.0 {
-        if -x < 2147483648.0 {
-            // the negation of 2^31 fits an i32, and 2^31 itself does not
-            return -1 - ((ceiling(-x) - 1) as i32);
+    if x < 2147483647.0 {
+        if x > -2147483648.0 {
+            return floor_inside(x);
         }
         return -2147483648;
+    }
+    if x == x {
+        return 2147483647;
     }
     0
 }
