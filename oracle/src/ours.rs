@@ -1,88 +1,18 @@
-//! Moorspindle's calls, as bindings/c/moorspindle.h declares them.
+//! Moorspindle's calls, as bindings/c/moorspindle.h declares them; the Rust crate has them already.
 
 pub mod cd;
+#[path = "../../bindings/rust/src/ffi.rs"]
+mod ffi;
 pub mod matching;
 pub mod record;
 pub mod run;
 pub mod sip;
 
 use crate::stack::called;
+use ffi::*;
 
 #[link(name = "moorspindle", kind = "static")]
-unsafe extern "C" {
-    safe fn moorspindle_magnitude(x: f64) -> f64;
-    safe fn moorspindle_floor(x: f64) -> i32;
-    safe fn moorspindle_root(x: f64) -> f64;
-    safe fn moorspindle_power(u: f64, p: u32) -> f64;
-
-    fn moorspindle_find_spine(
-        xs: *const f64,
-        xs_len: usize,
-        ys: *const f64,
-        ys_len: usize,
-        p0: u8,
-        p1: u8,
-        p2: u8,
-        p3: u8,
-        spine: *mut u8,
-        spine_len: usize,
-    ) -> u32;
-    fn moorspindle_orient_spine(
-        ax: f64,
-        ay: f64,
-        a: u8,
-        bx: f64,
-        by: f64,
-        b: u8,
-        pair: *mut u8,
-        pair_len: usize,
-    ) -> u32;
-    fn moorspindle_normalize_quad_ordered(
-        xs: *const f64,
-        xs_len: usize,
-        ys: *const f64,
-        ys_len: usize,
-        a: u8,
-        b: u8,
-        c: u8,
-        d: u8,
-        hash: *mut f64,
-        hash_len: usize,
-        places: *mut u8,
-        places_len: usize,
-    ) -> u32;
-    fn moorspindle_combinations_4(n: u32, state: *mut u8, state_len: usize) -> u32;
-    fn moorspindle_combinations_4_next(
-        n: u32,
-        state: *mut u8,
-        state_len: usize,
-        places: *mut u8,
-        places_len: usize,
-        given: *mut u8,
-    ) -> u32;
-    fn moorspindle_neighbor_quads(
-        xs: *const f64,
-        xs_len: usize,
-        ys: *const f64,
-        ys_len: usize,
-        k: u32,
-        min_spine_sq: f64,
-        places: *mut u8,
-        places_len: usize,
-        hashes: *mut f64,
-        hashes_len: usize,
-        quads: *mut u64,
-    ) -> u32;
-    safe fn moorspindle_discrete_hash_key(h0: f64, h1: f64, h2: f64, h3: f64) -> u64;
-    fn moorspindle_discrete_hash_key_neighbors(
-        h0: f64,
-        h1: f64,
-        h2: f64,
-        h3: f64,
-        keys: *mut u64,
-        keys_len: usize,
-    ) -> u32;
-}
+unsafe extern "C" {}
 
 pub fn magnitude(x: f64) -> f64 {
     called(|| moorspindle_magnitude(x))

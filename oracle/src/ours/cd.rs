@@ -1,94 +1,9 @@
 //! cd_matrix.rs. Each pointer comes from a Rust reference and goes with its length, and what is
 //! lent to be written overlaps nothing else.
 
+use super::ffi::*;
 use super::matching::Rows;
 use crate::stack::called;
-
-#[link(name = "moorspindle", kind = "static")]
-unsafe extern "C" {
-    fn moorspindle_fit_cd_matrix_6(
-        px: *const f64,
-        px_len: usize,
-        py: *const f64,
-        py_len: usize,
-        xi: *const f64,
-        xi_len: usize,
-        eta: *const f64,
-        eta_len: usize,
-        mask: *const u8,
-        mask_len: usize,
-        cd: *mut f64,
-        cd_len: usize,
-    ) -> u32;
-    fn moorspindle_fit_cd_weighted(
-        px: *const f64,
-        px_len: usize,
-        py: *const f64,
-        py_len: usize,
-        xi: *const f64,
-        xi_len: usize,
-        eta: *const f64,
-        eta_len: usize,
-        mask: *const u8,
-        mask_len: usize,
-        weights: *const f64,
-        weights_len: usize,
-        cd: *mut f64,
-        cd_len: usize,
-    ) -> u32;
-    fn moorspindle_compute_pixel_errors(
-        px: *const f64,
-        px_len: usize,
-        py: *const f64,
-        py_len: usize,
-        xi: *const f64,
-        xi_len: usize,
-        eta: *const f64,
-        eta_len: usize,
-        mask: *const u8,
-        mask_len: usize,
-        cd: *const f64,
-        cd_len: usize,
-        errors: *mut f64,
-        errors_len: usize,
-    ) -> u32;
-    fn moorspindle_compute_residuals(
-        px: *const f64,
-        px_len: usize,
-        py: *const f64,
-        py_len: usize,
-        xi: *const f64,
-        xi_len: usize,
-        eta: *const f64,
-        eta_len: usize,
-        wcs: *const f64,
-        wcs_len: usize,
-        err_x: *mut f64,
-        err_x_len: usize,
-        err_y: *mut f64,
-        err_y_len: usize,
-        err_px: *mut f64,
-        err_px_len: usize,
-        residuals: *mut u64,
-    ) -> u32;
-    fn moorspindle_rms_error(err_px: *const f64, err_px_len: usize, rms: *mut f64) -> u32;
-    fn moorspindle_weighted_rms_error(
-        err_px: *const f64,
-        err_px_len: usize,
-        weights: *const f64,
-        weights_len: usize,
-        rms: *mut f64,
-    ) -> u32;
-    fn moorspindle_solve_normal_equations(
-        a: *const f64,
-        a_len: usize,
-        b: *const f64,
-        b_len: usize,
-        n: u32,
-        x: *mut f64,
-        x_len: usize,
-    ) -> u32;
-}
 
 pub fn fit_cd_matrix_6([px, py, xi, eta]: Rows, mask: &[u8], cd: &mut [f64]) -> u32 {
     called(|| unsafe {

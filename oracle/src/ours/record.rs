@@ -1,26 +1,8 @@
 //! The record. Each pointer comes from a Rust reference and goes with its length, and what is lent to
 //! be written overlaps nothing else.
 
+use super::ffi::*;
 use crate::stack::called;
-
-#[link(name = "moorspindle", kind = "static")]
-unsafe extern "C" {
-    fn moorspindle_write_record(
-        rows_used: u64,
-        wcs: *const f64,
-        wcs_len: usize,
-        order: u32,
-        a: *const f64,
-        a_len: usize,
-        b: *const f64,
-        b_len: usize,
-        sums: *const f64,
-        sums_len: usize,
-        text: *mut u8,
-        text_len: usize,
-        written: *mut u64,
-    ) -> u32;
-}
 
 /// What a record is written of.
 #[derive(Clone, Copy)]

@@ -1,46 +1,9 @@
 //! The CD run and the clip. Each pointer comes from a Rust reference and goes with its length, and
 //! what is lent to be written overlaps nothing else.
 
+use super::ffi::*;
 use super::matching::Rows;
 use crate::stack::called;
-
-#[link(name = "moorspindle", kind = "static")]
-unsafe extern "C" {
-    fn moorspindle_ransac_fit(
-        px: *const f64,
-        px_len: usize,
-        py: *const f64,
-        py_len: usize,
-        xi: *const f64,
-        xi_len: usize,
-        eta: *const f64,
-        eta_len: usize,
-        votes: *const u32,
-        votes_len: usize,
-        limit: f64,
-        trials: u32,
-        mask: *mut u8,
-        mask_len: usize,
-        tested: *mut u8,
-        on: *mut u64,
-    ) -> u32;
-    fn moorspindle_sigma_clip_loop_weighted(
-        px: *const f64,
-        px_len: usize,
-        py: *const f64,
-        py_len: usize,
-        xi: *const f64,
-        xi_len: usize,
-        eta: *const f64,
-        eta_len: usize,
-        mask: *mut u8,
-        mask_len: usize,
-        cd: *mut f64,
-        cd_len: usize,
-        weights: *const f64,
-        weights_len: usize,
-    ) -> u32;
-}
 
 /// What a run draws by: the votes, the limit of an error, and the number of trials.
 #[derive(Clone, Copy)]

@@ -1,34 +1,9 @@
 //! sip.rs. Each pointer comes from a Rust reference and goes with its length, and what is lent to
 //! be written overlaps nothing else.
 
+use super::ffi::*;
 use super::matching::Rows;
 use crate::stack::called;
-
-#[link(name = "moorspindle", kind = "static")]
-unsafe extern "C" {
-    fn moorspindle_fit_sip(
-        px: *const f64,
-        px_len: usize,
-        py: *const f64,
-        py_len: usize,
-        xi: *const f64,
-        xi_len: usize,
-        eta: *const f64,
-        eta_len: usize,
-        snr: *const f64,
-        snr_len: usize,
-        wcs: *const f64,
-        wcs_len: usize,
-        order: u32,
-        a: *mut f64,
-        a_len: usize,
-        b: *mut f64,
-        b_len: usize,
-        rows_used: *mut u64,
-        sums: *mut f64,
-        sums_len: usize,
-    ) -> u32;
-}
 
 /// What a fit is written into: the coefficients of both axes, the rows used, the three sums.
 #[derive(Clone)]
