@@ -7,7 +7,7 @@ use Rattle.sip_rounds.proofs.solve_errors.Statement.{statement}
 use Rattle.sip_rounds.proofs.solve_errors.Tie as tie
 
 solve-both-requires : tie.Need-solve-both-requires
-solve-both-requires c κs = let s = c .before .before .before .before .before .before .before .before .before .before .before in (s .pre .0, (s .pre .1 .0, (s .pre .1 .1 .0, (s .pre .1 .1 .1 .0, (s .pre .1 .1 .1 .1 .0, (s .pre .1 .1 .1 .1 .1 .1 .0, (s .pre .1 .1 .1 .1 .1 .1 .1 .0, s .pre .1 .1 .1 .1 .1 .1 .1 .1)))))))
+solve-both-requires c κs = let s = c .before .before .before .before .before .before .before .before .before .before .before .before .before in (s .pre .0, (s .pre .1 .0, (s .pre .1 .1 .0, (s .pre .1 .1 .1 .0, (s .pre .1 .1 .1 .1 .0, (s .pre .1 .1 .1 .1 .1 .1 .0, (s .pre .1 .1 .1 .1 .1 .1 .1 .0, s .pre .1 .1 .1 .1 .1 .1 .1 .1 .0)))))))
 
 enum-known-why : tie.Need-enum-known-why
 enum-known-why c = search needs
@@ -16,7 +16,7 @@ enum-told : tie.Need-enum-told
 enum-told c = search needs
 
 put-errors-requires : tie.Need-put-errors-requires
-put-errors-requires c κs = let s = c .before .before .before .before .before .before .before .before .before .before .before .before .before .before .before .before .before .before .before .before .before in let p = c .before .before .before .before .before .before .before .before .before .solve-both in let n = s .pre .1 .1 .1 .1 .1 .1 .0 in let x = p .kept .1 .1 .1 .1 .1 .1 .1 .1 .0 ∙ s .pre .1 .1 .1 .1 .1 .1 .1 .0 in let y = p .kept .1 .1 .1 .1 .1 .1 .1 .1 .1 .0 ∙ s .pre .1 .1 .1 .1 .1 .1 .1 .1 in (s .pre .0, (s .pre .1 .0, (s .pre .1 .1 .0, (s .pre .1 .1 .1 .1 .0, (s .pre .1 .1 .1 .1 .1 .0, (omega (arith, x, n), omega (arith, y, n)))))))
+put-errors-requires c κs = let s = c .before .before .before .before .before .before .before .before .before .before .before .before .before .before .before .before .before .before .before .before .before .before .before in let p = c .before .before .before .before .before .before .before .before .before .solve-both in let n = s .pre .1 .1 .1 .1 .1 .1 .0 in let x = p .kept .1 .1 .1 .1 .1 .1 .1 .1 .0 ∙ s .pre .1 .1 .1 .1 .1 .1 .1 .0 in let y = p .kept .1 .1 .1 .1 .1 .1 .1 .1 .1 .0 ∙ s .pre .1 .1 .1 .1 .1 .1 .1 .1 .0 in (s .pre .0, (s .pre .1 .0, (s .pre .1 .1 .0, (s .pre .1 .1 .1 .1 .0, (s .pre .1 .1 .1 .1 .1 .0, ((omega (arith, x, n), omega (arith, y, n), s .pre .1 .1 .1 .1 .1 .1 .1 .1 .1 .0), s .pre .1 .1 .1 .1 .1 .1 .1 .1 .1 .1))))))
 
 same-length : tie.Need-same-length
 same-length c = search needs

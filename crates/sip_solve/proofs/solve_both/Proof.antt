@@ -1,5 +1,6 @@
 -- `sip_solve::solve_both` meets its contract: the count decides; the matrix that is lent is of zeros. Assumes nothing.
-use Rattle.sip_solve.proofs.Room.{in-square, take-replicate}
+use Rattle.sip_solve.proofs.Room.{in-square}
+use Rattle.sip_terms.proofs.Told.{take-replicate}
 use Rattle.sip_solve.specs.Solve.{solveOf}
 use Rattle.cd_plate.specs.Plate.{nothing}
 use lib.Seq.{length-take-le}
