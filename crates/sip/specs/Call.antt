@@ -42,10 +42,11 @@ sipEnded f order = roundsOf f (termCount order)
 abbrev pub sipAnswer : Field → ℕ → ℕ → ℕ → SipFit
 sipAnswer f order a b = fitAfter (testsAnswer f order a b) (sipAfter f (sipEnded f order))
 
--- what is written into a and into b, when it is done
+-- what is written into a when it is done
 abbrev pub sipA : Field → ℕ → List Float
 sipA f order = coefficientsA (sipEnded f order)
 
+-- and into b
 abbrev pub sipB : Field → ℕ → List Float
 sipB f order = coefficientsB (sipEnded f order)
 

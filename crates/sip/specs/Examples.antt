@@ -28,13 +28,15 @@ use Rattle.sip_rounds.specs.Rounds.{Fitted, roundsFrom}
 use Rattle.sip.specs.declared.SipFit.the-variants as fit
 use Rattle.sip.specs.Call.{sipAfter, sipEnded, sipAnswer, sipA, sipB}
 
--- a whole number as a float, and its negation
+-- a whole number as a float
 abbrev f : ℕ → Float
 f k = ofInt binary64 (pos k)
 
+-- its negation
 abbrev m : ℕ → Float
 m k = neg (f k)
 
+-- 0.5
 abbrev half : Float
 half = ofBits binary64 0x3fe0_0000_0000_0000
 
@@ -46,6 +48,7 @@ past = ofBits binary64 0xbff8_0000_0000_0000
 abbrev unit : Wcs
 unit = record { crpix1 = f 0; crpix2 = f 0; cd1_1 = f 1; cd1_2 = f 0; cd2_1 = f 0; cd2_2 = f 1 }
 
+-- six times the same
 abbrev six : Float → List Float
 six x = replicate 6 x
 
@@ -64,9 +67,11 @@ whole : sipAnswer (bent (six (f 1))) 2 3 3 ≡ fit.Fitted (record { «rows_used�
 unfolding fieldAnswer orderAnswer positionRows every isWcs isCd countTo ones filled offsetOf determinantOf termAt powerOf errorOf valueTo linearTo totalsTo sipOf magnitudeOf rootOf ofBits ofInt add sub mul div neg lt le eq
 whole = rw ended
 
+-- its A coefficients
 whole-a : sipA (bent (six (f 1))) 2 ≡ half ∷ f 0 ∷ f 0 ∷ []
 whole-a = rw ended
 
+-- and its B coefficients, none of them kept
 whole-b : sipB (bent (six (f 1))) 2 ≡ f 0 ∷ f 0 ∷ f 0 ∷ []
 whole-b = rw ended
 

@@ -4,7 +4,7 @@ use domain::Answer;
 use domain::Refusal;
 use sip_terms::Sip;
 ghost use mathlib.Core.Path.{_≡_};
-ghost use Prim.Native.Nat.{_≤_};
+ghost use Prim.Native.Nat.{_+_, _*_, _≤_};
 ghost use lib.ListN.{length, replicate};
 ghost use Rattle.domain.specs.declared.Answer.the-variants as answer;
 ghost use Rattle.domain.specs.Answers.{lentAfter};
@@ -13,8 +13,12 @@ ghost use Rattle.sip_sums.specs.Field.{field};
 ghost use Rattle.sip_rounds.specs.Rounds.{roundsOf};
 ghost use Rattle.sip.specs.Call.{sipAfter, coefficientsA, coefficientsB, answerOf, sipNumber, sipAnswer, sipA, sipB};
 
-// The most rows, and the most terms.
+// The most rows, the numbers of their lines, their powers, and the most terms.
 const MOST_ROWS: usize = 100;
+
+const MOST_NUMBERS: usize = 2000;
+
+const MOST_POWERS: usize = 600;
 
 const MOST_TERMS: usize = 18;
 
@@ -45,6 +49,9 @@ fn fit_lent(
     snr: &[f64],
     wcs: Wcs,
     n: usize,
+    lines: &mut [f64],
+    up: &mut [f64],
+    vp: &mut [f64],
     roots: &mut [f64],
     mask: &mut [u8],
     errors: &mut [f64],
@@ -55,6 +62,7 @@ fn fit_lent(
         ∗ ⌜ length (now snr) ≡ length (now px) ⌝ ∗ ⌜ length (now px) ≤ 100 ⌝ }
     requires { ⌜ length (now roots) ≡ length (now px) ⌝ ∗ ⌜ now mask ≡ replicate (length (now px)) 1 ⌝ ∗ ⌜ length (now errors) ≡ length (now px) ⌝ }
     requires { ⌜ n ≤ 18 ⌝ ∗ ⌜ length (now a) ≡ n ⌝ ∗ ⌜ length (now b) ≡ n ⌝ }
+    requires { ⌜ length (now up) ≡ 6 * length (now px) ⌝ ∗ ⌜ length (now vp) ≡ 6 * length (now px) ⌝ ∗ ⌜ length (now lines) ≡ length (now px) * (n + 2) ⌝ }
     ensures answer { λ r. ⌜ r ≡ sipAfter (field (rows (now (px .entry)) (now (py .entry)) (now (xi .entry)) (now (eta .entry))) (now (snr .entry)) wcs)
         (roundsOf (field (rows (now (px .entry)) (now (py .entry)) (now (xi .entry)) (now (eta .entry))) (now (snr .entry)) wcs) n) ⌝ }
     ensures a { λ r. ⌜ (answerOf r ≡ answer.Done → now (a .exit) ≡ coefficientsA
@@ -62,9 +70,27 @@ fn fit_lent(
     ensures b { λ r. ⌜ (answerOf r ≡ answer.Done → now (b .exit) ≡ coefficientsB
         (roundsOf (field (rows (now (px .entry)) (now (py .entry)) (now (xi .entry)) (now (eta .entry))) (now (snr .entry)) wcs) n)) ⌝ }
 {
+    sip_sums::put_lines(px, py, xi, eta, wcs, n, lines);
+    sip_values::put_powers(px, py, xi, eta, wcs, up, vp);
     sip_clip::put_roots(snr, roots);
     let linear = sip_rms::linear_rms(px, py, xi, eta, wcs);
-    match sip_rounds::fit_rounds(px, py, xi, eta, snr, wcs, n, roots, mask, errors, a, b) {
+    match sip_rounds::fit_rounds(
+        px,
+        py,
+        xi,
+        eta,
+        snr,
+        wcs,
+        lines,
+        up,
+        vp,
+        n,
+        roots,
+        mask,
+        errors,
+        a,
+        b,
+    ) {
         Answer::Refused(why) => SipFit::Refused(why),
         Answer::Done => SipFit::Fitted(sip_rms::sip_of(linear, snr, mask, errors)),
     }
@@ -93,6 +119,11 @@ fn fit_terms(
         (roundsOf (field (rows (now (px .entry)) (now (py .entry)) (now (xi .entry)) (now (eta .entry))) (now (snr .entry)) wcs) n)) ⌝ }
 {
     let count = px.len();
+    let numbers = count * (n + 2);
+    let powers = sip_terms::POWERS * count;
+    let mut lines = [0.0; MOST_NUMBERS];
+    let mut up = [0.0; MOST_POWERS];
+    let mut vp = [0.0; MOST_POWERS];
     let mut roots = [0.0; MOST_ROWS];
     let mut mask: [u8; 100] = [1; MOST_ROWS];
     let mut errors = [0.0; MOST_ROWS];
@@ -104,6 +135,9 @@ fn fit_terms(
         snr,
         wcs,
         n,
+        &mut lines[..numbers],
+        &mut up[..powers],
+        &mut vp[..powers],
         &mut roots[..count],
         &mut mask[..count],
         &mut errors[..count],

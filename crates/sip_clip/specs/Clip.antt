@@ -76,6 +76,7 @@ pub record Clipped : Type 0 where
   pub mask : List ℕ
   pub rejected : ℕ
 
+-- the two put together
 abbrev pub clipped : List ℕ → ℕ → Clipped
 clipped mask rejected = record { mask = mask; rejected = rejected }
 

@@ -16,18 +16,20 @@ use Rattle.sip_clip.specs.Clip.{errorOf, weighedTo, rejectedTo, clipped,
 abbrev f : ℕ → Float
 f k = ofInt binary64 (pos k)
 
--- du 10 less 2 u^2 + u v, and dv 9 less v^2: 6 and 8 away
+-- du 10 less u^2 + 3 u v, and dv 9 less v^2, at (1, 1): 6 and 8 are left
 an-error : errorOf (f 1 ∷ f 3 ∷ f 0 ∷ []) (f 0 ∷ f 0 ∷ f 1 ∷ []) (record { u = f 1; v = f 1; du = f 10; dv = f 9 }) ≡ f 10
 unfolding errorOf valueTo termAt powerOf magnitudeOf rootOf ofBits ofInt add sub mul div lt
 an-error = refl
 
--- eight rows of snr 1, all but one of error 0: the limit is 2.5 times the root of 64 / 8
+-- eight rows of snr 1
 abbrev ones8 : List Float
 ones8 = f 1 ∷ f 1 ∷ f 1 ∷ f 1 ∷ f 1 ∷ f 1 ∷ f 1 ∷ f 1 ∷ []
 
+-- the third has this error, and the others none
 abbrev far : Float → List Float
 far e = f 0 ∷ f 0 ∷ e ∷ f 0 ∷ f 0 ∷ f 0 ∷ f 0 ∷ f 0 ∷ []
 
+-- 8 is past 2.5 times the root of 64 / 8
 one-off : clipOf ones8 (1 ∷ 1 ∷ 1 ∷ 1 ∷ 1 ∷ 1 ∷ 1 ∷ 1 ∷ []) (far (f 8)) ≡ clipped (1 ∷ 1 ∷ 0 ∷ 1 ∷ 1 ∷ 1 ∷ 1 ∷ 1 ∷ []) 1
 unfolding clipOf filled weighedTo rejectedTo ones rootOf ofBits ofInt add mul div lt
 one-off = refl

@@ -5,37 +5,89 @@ use sip_terms::Sip;
 ghost use mathlib.Core.Path.{_≡_};
 ghost use mathlib.Core.Bool.{cond};
 ghost use Prim.Native.Nat.{_≤_};
-ghost use lib.ListN.{length};
+ghost use lib.ListN.{length, replicate};
 ghost use Rattle.rows.specs.Rows.{rows};
 ghost use Rattle.cd_plate.specs.Plate.{nothing};
+ghost use Rattle.cd_plate.specs.Filled.{filled};
 ghost use Rattle.cd_mask.specs.Marks.{byteOf};
 ghost use Rattle.sip_sums.specs.Normal.{plusIf};
-ghost use Rattle.sip_clip.specs.Clip.{errorOf, errorsOf, weighedTo, limitOf, rootsOf, clipped, clipOf};
-ghost use Rattle.sip_clip.specs.Steps.{rejectedIn, maskIn};
+ghost use Rattle.sip_values.specs.Values.{Powers};
+ghost use Rattle.sip_clip.specs.Clip.{errorsOf, weighedTo, limitOf, rootsOf, clipped, clipOf};
+ghost use Rattle.sip_clip.specs.Steps.{errorLeft, errorIn, rejectedIn, maskIn};
 
-// What is left of a row's offset once both polynomials are taken away.
-fn error_of(o: Offset, a: &[f64], b: &[f64]) -> f64
-    requires { ⌜ (length (now a) ≤ 18) × (length (now b) ≤ 18) ⌝ }
-    ensures { λ r. ⌜ r ≡ errorOf (now (a .entry)) (now (b .entry)) o ⌝ }
+// The most rows.
+const MOST_ROWS: usize = 100;
+
+// What is left of a row's offset once the values of both polynomials are taken away.
+fn error_of(o: Offset, x: f64, y: f64) -> f64
+    ensures { λ r. ⌜ r ≡ errorLeft o x y ⌝ }
 {
-    let mut up = [0.0; sip_terms::POWERS];
-    let mut vp = [0.0; sip_terms::POWERS];
-    sip_terms::put_powers(o.u, &mut up);
-    sip_terms::put_powers(o.v, &mut vp);
-    let ex = o.du - sip_terms::value(a, &up, &vp);
-    let ey = o.dv - sip_terms::value(b, &up, &vp);
+    let ex = o.du - x;
+    let ey = o.dv - y;
     floats::root(ex * ex + ey * ey)
 }
 
 // The error of a row that is on; +0.0 for one that is off.
-fn error_if(on: bool, o: Offset, a: &[f64], b: &[f64]) -> f64
-    requires { ⌜ (length (now a) ≤ 18) × (length (now b) ≤ 18) ⌝ }
-    ensures { λ r. ⌜ r ≡ cond on (errorOf (now (a .entry)) (now (b .entry)) o) nothing ⌝ }
+fn error_if(on: bool, o: Offset, x: f64, y: f64) -> f64
+    ensures { λ r. ⌜ r ≡ cond on (errorLeft o x y) nothing ⌝ }
 {
-    if on { error_of(o, a, b) } else { 0.0 }
+    if on { error_of(o, x, y) } else { 0.0 }
 }
 
-// The errors of all rows.
+// The errors of all rows, from the values of both polynomials.
+fn put_lengths(
+    px: &[f64],
+    py: &[f64],
+    xi: &[f64],
+    eta: &[f64],
+    wcs: Wcs,
+    mask: &[u8],
+    x: &[f64],
+    y: &[f64],
+    errors: &mut [f64],
+)
+    requires { ⌜ length (now py) ≡ length (now px) ⌝ ∗ ⌜ length (now xi) ≡ length (now px) ⌝ ∗ ⌜ length (now eta) ≡ length (now px) ⌝
+        ∗ ⌜ length (now mask) ≡ length (now px) ⌝ ∗ ⌜ length (now errors) ≡ length (now px) ⌝ }
+    requires { ⌜ length (now x) ≡ length (now px) ⌝ ∗ ⌜ length (now y) ≡ length (now px) ⌝ }
+    ensures { λ _. ⌜ now (errors .exit) ≡ filled (errorIn (rows (now (px .entry)) (now (py .entry)) (now (xi .entry)) (now (eta .entry))) wcs
+        (now (mask .entry)) (now (x .entry)) (now (y .entry))) (length (now (px .entry))) ⌝ }
+{
+    for k in 0..px.len() {
+        let o = sip_sums::offset_at(px, py, xi, eta, wcs, k);
+        errors[k] = error_if(mask[k] == 1, o, x[k], y[k]);
+    }
+}
+
+// The errors of all rows, by way of two lent lists of zeros.
+fn put_errors_in(
+    px: &[f64],
+    py: &[f64],
+    xi: &[f64],
+    eta: &[f64],
+    wcs: Wcs,
+    mask: &[u8],
+    up: &[f64],
+    vp: &[f64],
+    a: &[f64],
+    b: &[f64],
+    x: &mut [f64],
+    y: &mut [f64],
+    errors: &mut [f64],
+)
+    requires { ⌜ length (now py) ≡ length (now px) ⌝ ∗ ⌜ length (now xi) ≡ length (now px) ⌝ ∗ ⌜ length (now eta) ≡ length (now px) ⌝
+        ∗ ⌜ length (now mask) ≡ length (now px) ⌝ ∗ ⌜ length (now errors) ≡ length (now px) ⌝ }
+    requires { ⌜ (length (now a) ≤ 18) × (length (now b) ≤ 18) × (length (now px) ≤ 100) ⌝ }
+    requires { ⌜ Powers (rows (now px) (now py) (now xi) (now eta)) wcs (now up) (now vp) ⌝ }
+    requires { ⌜ now x ≡ replicate (length (now px)) nothing ⌝ ∗ ⌜ now y ≡ replicate (length (now px)) nothing ⌝ }
+    ensures { λ _. ⌜ now (errors .exit) ≡ errorsOf (rows (now (px .entry)) (now (py .entry)) (now (xi .entry)) (now (eta .entry))) wcs
+        (now (mask .entry)) (now (a .entry)) (now (b .entry)) ⌝ }
+{
+    sip_values::put_values(a, up, vp, x);
+    sip_values::put_values(b, up, vp, y);
+    put_lengths(px, py, xi, eta, wcs, mask, x, y, errors);
+}
+
+// The same with lists of its own.
 pub fn put_errors(
     px: &[f64],
     py: &[f64],
@@ -43,20 +95,37 @@ pub fn put_errors(
     eta: &[f64],
     wcs: Wcs,
     mask: &[u8],
+    up: &[f64],
+    vp: &[f64],
     a: &[f64],
     b: &[f64],
     errors: &mut [f64],
 )
     requires { ⌜ length (now py) ≡ length (now px) ⌝ ∗ ⌜ length (now xi) ≡ length (now px) ⌝ ∗ ⌜ length (now eta) ≡ length (now px) ⌝
         ∗ ⌜ length (now mask) ≡ length (now px) ⌝ ∗ ⌜ length (now errors) ≡ length (now px) ⌝ }
-    requires { ⌜ (length (now a) ≤ 18) × (length (now b) ≤ 18) ⌝ }
+    requires { ⌜ (length (now a) ≤ 18) × (length (now b) ≤ 18) × (length (now px) ≤ 100) ⌝ }
+    requires { ⌜ Powers (rows (now px) (now py) (now xi) (now eta)) wcs (now up) (now vp) ⌝ }
     ensures { λ _. ⌜ now (errors .exit) ≡ errorsOf (rows (now (px .entry)) (now (py .entry)) (now (xi .entry)) (now (eta .entry))) wcs
         (now (mask .entry)) (now (a .entry)) (now (b .entry)) ⌝ }
 {
-    for k in 0..px.len() {
-        let o = sip_sums::offset_at(px, py, xi, eta, wcs, k);
-        errors[k] = error_if(mask[k] == 1, o, a, b);
-    }
+    let count = px.len();
+    let mut x = [0.0; MOST_ROWS];
+    let mut y = [0.0; MOST_ROWS];
+    put_errors_in(
+        px,
+        py,
+        xi,
+        eta,
+        wcs,
+        mask,
+        up,
+        vp,
+        a,
+        b,
+        &mut x[..count],
+        &mut y[..count],
+        errors,
+    )
 }
 
 // A sum with w * x * y more for a row that is on.

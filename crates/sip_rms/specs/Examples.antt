@@ -17,11 +17,12 @@ two : sipOf (f 7) (f 0 ∷ f 9 ∷ f 2 ∷ []) (1 ∷ 0 ∷ 1 ∷ []) (f 7 ∷ n
 unfolding sipOf totalsTo ones rootOf ofBits ofInt add mul div lt
 two = refl
 
--- no weight, no row: 0.0
+-- weights that come to nothing
 weightless : sipOf (f 7) (f 0 ∷ []) (1 ∷ []) (f 4 ∷ []) ≡ record { «rows_used» = 1; «linear_rms» = f 7; rms = f 4; wrms = f 0 }
 unfolding sipOf totalsTo ones rootOf ofBits ofInt add mul div lt
 weightless = refl
 
+-- no row that is on
 rowless : sipOf (f 7) (f 1 ∷ []) (0 ∷ []) (f 4 ∷ []) ≡ record { «rows_used» = 0; «linear_rms» = f 7; rms = f 0; wrms = f 0 }
 unfolding sipOf totalsTo ones rootOf ofBits ofInt add mul div lt
 rowless = refl

@@ -18,6 +18,7 @@ pub data Ended : Type 0 where
   Fitted : List ℕ → List Float → List Float → Ended
   Failed : Refusal → Ended
 
+-- the first where a test holds, else the second
 abbrev pub pickEnded : Bool → Ended → Ended → Ended
 pickEnded true a b = a
 pickEnded false a b = b

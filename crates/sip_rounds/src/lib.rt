@@ -8,7 +8,9 @@ ghost use lib.ListN.{length};
 ghost use Rattle.domain.specs.declared.Answer.the-variants as answer;
 ghost use Rattle.rows.specs.Rows.{rows};
 ghost use Rattle.sip_sums.specs.Field.{field};
+ghost use Rattle.sip_sums.specs.Steps.{Lines};
 ghost use Rattle.sip_solve.specs.Solve.{solveOf, coefficientsAs};
+ghost use Rattle.sip_values.specs.Values.{Powers};
 ghost use Rattle.sip_clip.specs.Clip.{errorsOf, rootsOf};
 ghost use Rattle.sip_rounds.specs.Rounds.{endedAs, roundsFrom};
 
@@ -20,6 +22,9 @@ fn solve_errors(
     eta: &[f64],
     snr: &[f64],
     wcs: Wcs,
+    lines: &[f64],
+    up: &[f64],
+    vp: &[f64],
     n: usize,
     mask: &[u8],
     errors: &mut [f64],
@@ -28,16 +33,18 @@ fn solve_errors(
 ) -> Answer
     requires { ⌜ length (now py) ≡ length (now px) ⌝ ∗ ⌜ length (now xi) ≡ length (now px) ⌝ ∗ ⌜ length (now eta) ≡ length (now px) ⌝
         ∗ ⌜ length (now snr) ≡ length (now px) ⌝ ∗ ⌜ length (now mask) ≡ length (now px) ⌝ }
-    requires { ⌜ length (now errors) ≡ length (now px) ⌝ ∗ ⌜ n ≤ 18 ⌝ ∗ ⌜ length (now a) ≡ n ⌝ ∗ ⌜ length (now b) ≡ n ⌝ }
+    requires { ⌜ length (now errors) ≡ length (now px) ⌝ ∗ ⌜ n ≤ 18 ⌝ ∗ ⌜ length (now a) ≡ n ⌝ ∗ ⌜ length (now b) ≡ n ⌝ ∗ ⌜ length (now px) ≤ 100 ⌝ }
+    requires { ⌜ Powers (rows (now px) (now py) (now xi) (now eta)) wcs (now up) (now vp) ⌝ }
+    requires { ⌜ Lines (rows (now px) (now py) (now xi) (now eta)) wcs n (now lines) ⌝ }
     ensures solved { λ r. ⌜ coefficientsAs r (now (a .exit)) (now (b .exit)) ≡ solveOf
         (field (rows (now (px .entry)) (now (py .entry)) (now (xi .entry)) (now (eta .entry))) (now (snr .entry)) wcs) (now (mask .entry)) n ⌝ }
     ensures errors { λ r. ⌜ (r ≡ answer.Done → now (errors .exit) ≡ errorsOf
         (rows (now (px .entry)) (now (py .entry)) (now (xi .entry)) (now (eta .entry))) wcs (now (mask .entry)) (now (a .exit)) (now (b .exit))) ⌝ }
 {
-    match sip_solve::solve_both(px, py, xi, eta, snr, wcs, mask, n, a, b) {
+    match sip_solve::solve_both(lines, snr, mask, n, a, b) {
         Answer::Refused(why) => Answer::Refused(why),
         Answer::Done => {
-            sip_clip::put_errors(px, py, xi, eta, wcs, mask, a, b, errors);
+            sip_clip::put_errors(px, py, xi, eta, wcs, mask, up, vp, a, b, errors);
             Answer::Done
         }
     }
@@ -51,6 +58,9 @@ pub fn fit_rounds(
     eta: &[f64],
     snr: &[f64],
     wcs: Wcs,
+    lines: &[f64],
+    up: &[f64],
+    vp: &[f64],
     n: usize,
     roots: &[f64],
     mask: &mut [u8],
@@ -62,13 +72,30 @@ pub fn fit_rounds(
         ∗ ⌜ length (now snr) ≡ length (now px) ⌝ ∗ ⌜ length (now mask) ≡ length (now px) ⌝ }
     requires { ⌜ length (now errors) ≡ length (now px) ⌝ ∗ ⌜ n ≤ 18 ⌝ ∗ ⌜ length (now a) ≡ n ⌝ ∗ ⌜ length (now b) ≡ n ⌝ ∗ ⌜ length (now px) ≤ 100 ⌝ }
     requires { ⌜ now roots ≡ rootsOf (now snr) ⌝ }
+    requires { ⌜ Powers (rows (now px) (now py) (now xi) (now eta)) wcs (now up) (now vp) ⌝ }
+    requires { ⌜ Lines (rows (now px) (now py) (now xi) (now eta)) wcs n (now lines) ⌝ }
     ensures ended { λ r. ⌜ endedAs r (now (mask .exit)) (now (a .exit)) (now (b .exit)) ≡ roundsFrom
         (field (rows (now (px .entry)) (now (py .entry)) (now (xi .entry)) (now (eta .entry))) (now (snr .entry)) wcs) n 10 (now (mask .entry)) ⌝ }
     ensures errors { λ r. ⌜ (r ≡ answer.Done → now (errors .exit) ≡ errorsOf
         (rows (now (px .entry)) (now (py .entry)) (now (xi .entry)) (now (eta .entry))) wcs (now (mask .exit)) (now (a .exit)) (now (b .exit))) ⌝ }
 {
     for round in 0..Sip::ROUNDS {
-        let r = solve_errors(px, py, xi, eta, snr, wcs, n, mask, errors, a, b);
+        let r = solve_errors(
+            px,
+            py,
+            xi,
+            eta,
+            snr,
+            wcs,
+            lines,
+            up,
+            vp,
+            n,
+            mask,
+            errors,
+            a,
+            b,
+        );
         if let Answer::Refused(why) = r {
             return Answer::Refused(why);
         }
@@ -76,5 +103,20 @@ pub fn fit_rounds(
             return Answer::Done;
         }
     }
-    solve_errors(px, py, xi, eta, snr, wcs, n, mask, errors, a, b)
+    solve_errors(
+        px,
+        py,
+        xi,
+        eta,
+        snr,
+        wcs,
+        lines,
+        up,
+        vp,
+        n,
+        mask,
+        errors,
+        a,
+        b,
+    )
 }

@@ -30,9 +30,11 @@ unit = record { crpix1 = f 0; crpix2 = f 0; cd1_1 = f 1; cd1_2 = f 0; cd2_1 = f 
 abbrev three : Field
 three = field (rows (f 2 ∷ f 0 ∷ f 1 ∷ []) (f 0 ∷ f 2 ∷ f 1 ∷ []) (f 0 ∷ f 0 ∷ f 0 ∷ []) (f 0 ∷ f 1 ∷ f 1 ∷ [])) (f 1 ∷ f 1 ∷ f 1 ∷ []) unit
 
+-- 0.5
 abbrev half : Float
 half = ofBits binary64 0x3fe0_0000_0000_0000
 
+-- 0.25
 abbrev quarter : Float
 quarter = ofBits binary64 0x3fd0_0000_0000_0000
 

@@ -40,6 +40,7 @@ bothAxes (Unknowns x) (Unknowns y) = Found (keptAll x) (keptAll y)
 bothAxes (Unknowns x) (Singular col) = None refusal.Degenerate
 bothAxes (Singular col) other = None refusal.Degenerate
 
+-- the first where a test holds, else the second
 abbrev pub pickCoefficients : Bool → Coefficients → Coefficients → Coefficients
 pickCoefficients true a b = a
 pickCoefficients false a b = b

@@ -1,21 +1,17 @@
 // Both solves of a SIP fit over the rows that are on: one elimination with two right sides, and the coefficients that are kept.
-use cd_residuals::Wcs;
 use domain::Answer;
 use domain::Refusal;
 use elimination::Eliminated;
 ghost use mathlib.Core.Path.{_≡_};
 ghost use Prim.Native.Nat.{_+_, _*_, _≤_, _<_};
 ghost use lib.ListN.{length, replicate};
-ghost use Rattle.rows.specs.Rows.{rows};
 ghost use Rattle.cd_plate.specs.Plate.{nothing};
 ghost use Rattle.elimination.specs.Elimination.{cells, unknowns};
-ghost use Rattle.sip_sums.specs.Field.{field};
-ghost use Rattle.sip_sums.specs.Normal.{xOf, yOf};
-ghost use Rattle.sip_solve.specs.Solve.{keptAll, axisOf, bothAxes, solveOf, coefficientsAs};
+ghost use Rattle.sip_sums.specs.Steps.{sumsIn};
+ghost use Rattle.sip_solve.specs.Solve.{keptAll, coefficientsAs};
+ghost use Rattle.sip_solve.specs.Steps.{bothSides, solveIn};
 
-// The numbers of a line and of a matrix with the most terms.
-const MOST_COLUMNS: usize = 20;
-
+// The numbers of a matrix with the most terms.
 const MOST_NUMBERS: usize = 360;
 
 // Each coefficient as it is handed out.
@@ -39,33 +35,25 @@ fn put_coefficients(m: &[f64], n: usize, w: usize, b: usize, x: &mut [f64])
     keep_all(x);
 }
 
-// Both axes in n terms, by way of a lent line and a lent matrix of zeros.
+// Both axes in n terms, by way of a lent matrix of zeros.
 fn solve_in(
-    px: &[f64],
-    py: &[f64],
-    xi: &[f64],
-    eta: &[f64],
+    lines: &[f64],
     snr: &[f64],
-    wcs: Wcs,
     mask: &[u8],
     n: usize,
-    line: &mut [f64],
     m: &mut [f64],
     a: &mut [f64],
     b: &mut [f64],
 ) -> Answer
-    requires { ⌜ length (now py) ≡ length (now px) ⌝ ∗ ⌜ length (now xi) ≡ length (now px) ⌝ ∗ ⌜ length (now eta) ≡ length (now px) ⌝
-        ∗ ⌜ length (now snr) ≡ length (now px) ⌝ ∗ ⌜ length (now mask) ≡ length (now px) ⌝ }
+    requires { ⌜ length (now mask) ≡ length (now snr) ⌝ ∗ ⌜ length (now lines) ≡ length (now snr) * (n + 2) ⌝ }
     requires { ⌜ n ≤ 18 ⌝ }
-    requires { ⌜ length (now line) ≡ n + 2 ⌝ }
     requires { ⌜ now m ≡ replicate (n * (n + 2)) nothing ⌝ }
     requires { ⌜ length (now a) ≡ n ⌝ ∗ ⌜ length (now b) ≡ n ⌝ }
-    ensures { λ r. ⌜ coefficientsAs r (now (a .exit)) (now (b .exit)) ≡ bothAxes
-        (axisOf (field (rows (now (px .entry)) (now (py .entry)) (now (xi .entry)) (now (eta .entry))) (now (snr .entry)) wcs) (now (mask .entry)) xOf n)
-        (axisOf (field (rows (now (px .entry)) (now (py .entry)) (now (xi .entry)) (now (eta .entry))) (now (snr .entry)) wcs) (now (mask .entry)) yOf n) ⌝ }
+    ensures { λ r. ⌜ coefficientsAs r (now (a .exit)) (now (b .exit)) ≡ bothSides
+        (sumsIn (cells (now (lines .entry)) (n + 2)) (now (snr .entry)) (now (mask .entry)) (length (now (snr .entry)))) n ⌝ }
 {
     let w = n + 2;
-    sip_sums::put_sums(px, py, xi, eta, snr, wcs, mask, n, line, m);
+    sip_sums::put_sums(lines, snr, mask, n, m);
     match elimination::eliminate(m, n, w) {
         Eliminated::Stopped(_) => Answer::Refused(Refusal::Degenerate),
         Eliminated::Reduced => {
@@ -76,45 +64,24 @@ fn solve_in(
     }
 }
 
-// Both axes in n terms: refusal 6 for fewer rows on than terms, 8 for a degenerate system.
+// Both axes in n terms, from the lines of the rows: refusal 6 for fewer rows on than terms, 8 for a degenerate system.
 pub fn solve_both(
-    px: &[f64],
-    py: &[f64],
-    xi: &[f64],
-    eta: &[f64],
+    lines: &[f64],
     snr: &[f64],
-    wcs: Wcs,
     mask: &[u8],
     n: usize,
     a: &mut [f64],
     b: &mut [f64],
 ) -> Answer
-    requires { ⌜ length (now py) ≡ length (now px) ⌝ ∗ ⌜ length (now xi) ≡ length (now px) ⌝ ∗ ⌜ length (now eta) ≡ length (now px) ⌝
-        ∗ ⌜ length (now snr) ≡ length (now px) ⌝ ∗ ⌜ length (now mask) ≡ length (now px) ⌝ }
+    requires { ⌜ length (now mask) ≡ length (now snr) ⌝ ∗ ⌜ length (now lines) ≡ length (now snr) * (n + 2) ⌝ }
     requires { ⌜ n ≤ 18 ⌝ }
     requires { ⌜ length (now a) ≡ n ⌝ ∗ ⌜ length (now b) ≡ n ⌝ }
-    ensures { λ r. ⌜ coefficientsAs r (now (a .exit)) (now (b .exit)) ≡ solveOf
-        (field (rows (now (px .entry)) (now (py .entry)) (now (xi .entry)) (now (eta .entry))) (now (snr .entry)) wcs) (now (mask .entry)) n ⌝ }
+    ensures { λ r. ⌜ coefficientsAs r (now (a .exit)) (now (b .exit)) ≡ solveIn (cells (now (lines .entry)) (n + 2)) (now (snr .entry)) (now (mask .entry)) n ⌝ }
 {
     if cd_mask::count_on(mask) < n {
         return Answer::Refused(Refusal::Rows);
     }
-    let w = n + 2;
-    let size = n * w;
-    let mut line = [0.0; MOST_COLUMNS];
+    let size = n * (n + 2);
     let mut m = [0.0; MOST_NUMBERS];
-    solve_in(
-        px,
-        py,
-        xi,
-        eta,
-        snr,
-        wcs,
-        mask,
-        n,
-        &mut line[..w],
-        &mut m[..size],
-        a,
-        b,
-    )
+    solve_in(lines, snr, mask, n, &mut m[..size], a, b)
 }

@@ -13,15 +13,14 @@ use borrow.Author.Tests.{eqb-true, lt-ltb, le-ltb, le-leb}
 use Rattle.cd_plate.specs.Plate.{_⊗_, nothing}
 use Rattle.cd_plate.specs.Masked.{isOn}
 use Rattle.cd_plate.specs.Filled.{filled}
+use Rattle.cd_plate.proofs.Filling.{filled-length}
 use Rattle.elimination.specs.Elimination.{Matrix, cells}
 use Rattle.elimination.specs.Holds.{Holds}
 use Rattle.elimination.proofs.Flat.{in-cell, in-row, tail-at}
 use Rattle.elimination.proofs.Turns.{upTo, other-below}
 use Rattle.sip_terms.proofs.Told.{filled-at}
-use Rattle.sip_sums.specs.declared.Offset.{Offset}
-use Rattle.sip_sums.specs.Field.{Field, offsetAt, weightAt}
-use Rattle.sip_sums.specs.Normal.{entryTo}
-use Rattle.sip_sums.specs.Steps.{lineAt, More, withLine, withOffset, bothOf}
+use Rattle.sip_sums.specs.Field.{weightAt}
+use Rattle.sip_sums.specs.Steps.{More, withLine, withLineIf, sumsIn}
 
 -- a row of a flat matrix, lent and brought back
 pub row-at : (l new : List Float) (n w a k : ℕ) → k ≡ w → length l ≡ n * w → a < n → length new ≡ w → (r c : ℕ) → c < w
@@ -59,23 +58,47 @@ module _ (m : Matrix) (weight : Float) (line : List Float) (n w : ℕ) where
           (s c (rw long y) ∙ rw (getD-take k (drop (i * w) l) c nan (rw ek y), getD-drop (i * w) l c nan, old, ef))
       go false q long = rw (other-below r i q) (o r c x y)
 
--- a line that is told has the row's numbers
-pub offset-added : (l new line : List Float) (o : Offset) (n : ℕ) (weight : Float) (on : Bool) → on ≡ true → line ≡ filled (lineAt n o) (n + 2)
-    → Holds new n (n + 2) (withLine (cells l (n + 2)) weight line) → Holds new n (n + 2) (withOffset on n o weight (cells l (n + 2)))
-offset-added l new line o n weight on e f h r c i j =
-    rw e (h r c i j ∙ rw (f, filled-at (lineAt n o) (n + 2) r nan (omega arith), filled-at (lineAt n o) (n + 2) c nan j))
+-- a row that is off adds nothing
+pub line-kept : (l line : List Float) (n w : ℕ) (weight : Float) (on : Bool) → on ≡ false → Holds l n w (withLineIf on (cells l w) weight line)
+line-kept l line n w weight on e r c i j = rw e
 
-pub offset-kept : (l : List Float) (o : Offset) (n : ℕ) (weight : Float) (on : Bool) → on ≡ false → Holds l n (n + 2) (withOffset on n o weight (cells l (n + 2)))
-offset-kept l o n weight on e r c i j = rw e
+pub line-added : (l new line : List Float) (n w : ℕ) (weight : Float) (on : Bool) → on ≡ true → Holds new n w (withLine (cells l w) weight line) → Holds new n w (withLineIf on (cells l w) weight line)
+line-added l new line n w weight on e h r c i j = rw e (h r c i j)
 
-module _ (f : Field) (mask : List ℕ) (n : ℕ) where
-  pub sums-none : (l : List Float) → l ≡ replicate (n * (n + 2)) nothing → Holds l n (n + 2) (bothOf f mask n 0)
-  unfolding entryTo
+module _ (lines : List Float) (snr : List Float) (mask : List ℕ) (n : ℕ) where
+  pub sums-none : (l : List Float) → l ≡ replicate (n * (n + 2)) nothing → Holds l n (n + 2) (sumsIn (cells lines (n + 2)) snr mask 0)
+  unfolding sumsIn
   sums-none l e r c i j = rw e (getD-replicate (n * (n + 2)) (r * (n + 2) + c) nothing nan (in-cell n (n + 2) r c i j))
 
-  -- one row more, whose line has its basis in the columns of the terms
-  pub sums-more : (l new : List Float) (k : ℕ) (on : Bool) (o : Offset) (weight : Float) → on ≡ isOn mask k → o ≡ offsetAt (f .rows) (f .wcs) k → weight ≡ weightAt (f .snr) k
-      → Holds l n (n + 2) (bothOf f mask n k) → Holds new n (n + 2) (withOffset on n o weight (cells l (n + 2))) → Holds new n (n + 2) (bothOf f mask n (k + 1))
-  unfolding entryTo
-  sums-more l new k on o weight eb eo ew h s r c i j =
-      s r c i j ∙ rw (h r c i j, eb, eo, ew, add-one k, lt-ltb r n i)
+  -- one line more, lent from the table
+  pub sums-more : (l new : List Float) (k w : ℕ) (on : Bool) (weight : Float) → w ≡ n + 2 → on ≡ isOn mask k → weight ≡ weightAt snr k
+      → Holds l n (n + 2) (sumsIn (cells lines (n + 2)) snr mask k) → Holds new n (n + 2) (withLineIf on (cells l (n + 2)) weight (take w (drop (k * (n + 2)) lines)))
+      → Holds new n (n + 2) (sumsIn (cells lines (n + 2)) snr mask (k + 1))
+  unfolding sumsIn
+  sums-more l new k w on weight e eb ew h s r c i j =
+      s r c i j ∙ rw (
+        h r c i j,
+        eb,
+        ew,
+        add-one k,
+        getD-take w (drop (k * (n + 2)) lines) r nan (omega (arith, e)),
+        getD-drop (k * (n + 2)) lines r nan,
+        getD-take w (drop (k * (n + 2)) lines) c nan (omega (arith, e)),
+        getD-drop (k * (n + 2)) lines c nan,
+      )
+
+-- the lines below k are put: one more
+module _ (a b : Matrix) (n w : ℕ) where
+  pub put-none : (l : List Float) → Holds l n w b → Holds l n w (upTo 0 a b)
+  put-none l h r c i j = rw (le-ltb r 0 (omega arith)) (h r c i j)
+
+  pub put-all : (l : List Float) → Holds l n w (upTo n a b) → Holds l n w a
+  put-all l h r c i j = h r c i j ∙ rw (lt-ltb r n i)
+
+  pub put-more : (l new : List Float) (i k : ℕ) → k ≡ w → i < n → length l ≡ n * w → new ≡ filled (a i) w → Holds l n w (upTo i a b)
+      → Holds (take (i * w) l ++ (new ++ drop k (drop (i * w) l))) n w (upTo (i + 1) a b)
+  put-more l new i k ek h e en o r c x y = row-at l new n w i k ek e h (rw en (filled-length (a i) w)) r c y ∙ go (eqb r i) refl
+    where
+      go : (d : Bool) → eqb r i ≡ d → cond d (getD new c nan) (cells l w r c) ≡ upTo (i + 1) a b r c
+      go true q = rw (eqb-true r i q, lt-ltb i (i + 1) (omega arith), en) (filled-at (a i) w c nan y)
+      go false q = rw (other-below r i q) (o r c x y)

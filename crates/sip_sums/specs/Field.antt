@@ -16,6 +16,7 @@ pub record Field : Type 0 where
   pub snr : List Float
   pub wcs : Wcs
 
+-- the three put together
 abbrev pub field : Rows → List Float → Wcs → Field
 field r snr w = record { rows = r; snr = snr; wcs = w }
 

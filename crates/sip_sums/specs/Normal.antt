@@ -12,10 +12,11 @@ use Rattle.sip_terms.specs.Terms.{basisOf}
 use Rattle.sip_sums.specs.declared.Offset.{Offset}
 use Rattle.sip_sums.specs.Field.{Field, offsetAt, weightAt}
 
--- the two axes
+-- what is fitted on the axis of x
 abbrev pub xOf : Offset → Float
 xOf o = o .du
 
+-- and on that of y
 abbrev pub yOf : Offset → Float
 yOf o = o .dv
 

@@ -2,16 +2,20 @@
 use mathlib.Core.Path.{_≡_}
 use mathlib.Core.Bool.{Bool, cond}
 use mathlib.Core.List.{List}
-use Prim.Native.Nat.{ℕ, _<_}
+use Prim.Native.Nat.{ℕ, zero, suc, _+_, _*_, _<_}
 use lib.Dec.{ltb, eqb}
 use lib.ListN.{length, getD}
 use lib.Ieee.{Float, nan}
-use Rattle.cd_plate.specs.Plate.{_⊕_, _⊗_}
+use Rattle.rows.specs.Rows.{Rows, count}
+use Rattle.cd_plate.specs.Plate.{_⊕_, _⊗_, nothing}
+use Rattle.cd_plate.specs.Masked.{isOn}
+use Rattle.cd_residuals.specs.declared.Wcs.{Wcs}
 use Rattle.elimination.specs.Elimination.{Matrix}
+use Rattle.elimination.specs.Holds.{Holds}
 use Rattle.sip_terms.specs.Terms.{basisOf}
 use Rattle.sip_sums.specs.declared.Offset.{Offset}
-use Rattle.sip_sums.specs.Field.{Field}
-use Rattle.sip_sums.specs.Normal.{plusIf, entryTo}
+use Rattle.sip_sums.specs.Field.{offsetAt, weightAt}
+use Rattle.sip_sums.specs.Normal.{plusIf}
 
 -- a row's number in a column of both axes: the basis of each term, then du, then dv
 abbrev pub lineAt : ℕ → Offset → ℕ → Float
@@ -25,10 +29,16 @@ More old p f new = (k : ℕ) → k < length old → getD new k nan ≡ getD old 
 abbrev pub withLine : Matrix → Float → List Float → Matrix
 withLine m w line i j = m i j ⊕ w ⊗ getD line i nan ⊗ getD line j nan
 
--- a matrix with one row of weight w more
-abbrev pub withOffset : Bool → ℕ → Offset → Float → Matrix → Matrix
-withOffset on n o w m i j = plusIf on (m i j) w (lineAt n o i) (lineAt n o j)
+-- the same for a row that is on
+abbrev pub withLineIf : Bool → Matrix → Float → List Float → Matrix
+withLineIf on m w line i j = plusIf on (m i j) w (getD line i nan) (getD line j nan)
 
--- the equations of both axes in n terms over the first k rows, the right sides in columns n and n + 1
-abbrev pub bothOf : Field → List ℕ → ℕ → ℕ → Matrix
-bothOf f mask n k i j = entryTo f mask (lineAt n) i j k
+-- a table that has the line of every row
+pub record Lines (r : Rows) (w : Wcs) (n : ℕ) (lines : List Float) : Type 0 where
+  pub long : length lines ≡ count r * (n + 2)
+  pub held : Holds lines (count r) (n + 2) (λ k j. lineAt n (offsetAt r w k) j)
+
+-- the equations of both axes over the first k lines of a table, the right sides in the last two columns
+unfoldable pub sumsIn : Matrix → List Float → List ℕ → ℕ → Matrix
+sumsIn lines snr mask zero i j = nothing
+sumsIn lines snr mask (suc k) i j = plusIf (isOn mask k) (sumsIn lines snr mask k i j) (weightAt snr k) (lines k i) (lines k j)

@@ -11,8 +11,8 @@ ghost use Rattle.cd_plate.specs.Filled.{filled};
 ghost use Rattle.cd_residuals.specs.Residuals.{plateOf};
 ghost use Rattle.elimination.specs.Elimination.{cells};
 ghost use Rattle.elimination.specs.Holds.{Holds};
-ghost use Rattle.sip_sums.specs.Field.{field, offsetOf, offsetAt};
-ghost use Rattle.sip_sums.specs.Steps.{lineAt, More, withLine, withOffset, bothOf};
+ghost use Rattle.sip_sums.specs.Field.{offsetOf, offsetAt};
+ghost use Rattle.sip_sums.specs.Steps.{lineAt, More, withLine, withLineIf, Lines, sumsIn};
 
 // A row as the fit takes it: its pixel from the reference pixel, and what it is away from its ideal place.
 pub struct Offset {
@@ -99,46 +99,57 @@ fn add_line(m: &mut [f64], n: usize, w: usize, weight: f64, line: &[f64])
     }
 }
 
-// The same for a row that is on; `line` is lent to work in.
-fn add_offset(on: bool, o: Offset, n: usize, weight: f64, line: &mut [f64], m: &mut [f64])
+// The same for a row that is on.
+fn add_if(on: bool, weight: f64, line: &[f64], n: usize, m: &mut [f64])
     requires { ⌜ n ≤ 18 ⌝ }
     requires { ⌜ length (now line) ≡ n + 2 ⌝ }
     requires { ⌜ length (now m) ≡ n * (n + 2) ⌝ }
-    ensures { λ _. ⌜ Holds (now (m .exit)) n (n + 2) (withOffset on n o weight (cells (now (m .entry)) (n + 2))) ⌝ }
+    ensures { λ _. ⌜ Holds (now (m .exit)) n (n + 2) (withLineIf on (cells (now (m .entry)) (n + 2)) weight (now (line .entry))) ⌝ }
 {
     if !on {
         return;
     }
     let w = n + 2;
-    put_line(o, n, line);
     add_line(m, n, w, weight, line);
 }
 
-// The normal equations of n terms over the rows that are on, both right sides last, into a matrix of zeros.
-pub fn put_sums(
+// The lines of all rows, which no round changes.
+pub fn put_lines(
     px: &[f64],
     py: &[f64],
     xi: &[f64],
     eta: &[f64],
-    snr: &[f64],
     wcs: Wcs,
-    mask: &[u8],
     n: usize,
-    line: &mut [f64],
-    m: &mut [f64],
+    lines: &mut [f64],
 )
-    requires { ⌜ length (now py) ≡ length (now px) ⌝ ∗ ⌜ length (now xi) ≡ length (now px) ⌝ ∗ ⌜ length (now eta) ≡ length (now px) ⌝
-        ∗ ⌜ length (now snr) ≡ length (now px) ⌝ ∗ ⌜ length (now mask) ≡ length (now px) ⌝ }
+    requires { ⌜ length (now py) ≡ length (now px) ⌝ ∗ ⌜ length (now xi) ≡ length (now px) ⌝ ∗ ⌜ length (now eta) ≡ length (now px) ⌝ }
     requires { ⌜ n ≤ 18 ⌝ }
-    requires { ⌜ length (now line) ≡ n + 2 ⌝ }
-    requires { ⌜ now m ≡ replicate (n * (n + 2)) nothing ⌝ }
-    ensures { λ _. ⌜ Holds (now (m .exit)) n (n + 2) (bothOf
-        (field (rows (now (px .entry)) (now (py .entry)) (now (xi .entry)) (now (eta .entry))) (now (snr .entry)) wcs)
-        (now (mask .entry)) n (length (now (px .entry)))) ⌝ }
+    requires { ⌜ length (now lines) ≡ length (now px) * (n + 2) ⌝ }
+    ensures { λ _. ⌜ Lines (rows (now (px .entry)) (now (py .entry)) (now (xi .entry)) (now (eta .entry))) wcs n (now (lines .exit)) ⌝ }
 {
+    let w = n + 2;
     for k in 0..px.len() {
+        let from = k * w;
+        let end = from + w;
         let o = offset_at(px, py, xi, eta, wcs, k);
+        put_line(o, n, &mut lines[from..end]);
+    }
+}
+
+// The normal equations of n terms over the lines of the rows that are on, both right sides last, into a matrix of zeros.
+pub fn put_sums(lines: &[f64], snr: &[f64], mask: &[u8], n: usize, m: &mut [f64])
+    requires { ⌜ length (now mask) ≡ length (now snr) ⌝ ∗ ⌜ length (now lines) ≡ length (now snr) * (n + 2) ⌝ }
+    requires { ⌜ n ≤ 18 ⌝ }
+    requires { ⌜ now m ≡ replicate (n * (n + 2)) nothing ⌝ }
+    ensures { λ _. ⌜ Holds (now (m .exit)) n (n + 2)
+        (sumsIn (cells (now (lines .entry)) (n + 2)) (now (snr .entry)) (now (mask .entry)) (length (now (snr .entry)))) ⌝ }
+{
+    let w = n + 2;
+    for k in 0..snr.len() {
+        let from = k * w;
+        let end = from + w;
         let s = snr[k];
-        add_offset(mask[k] == 1, o, n, s * s, line, m);
+        add_if(mask[k] == 1, s * s, &lines[from..end], n, m);
     }
 }

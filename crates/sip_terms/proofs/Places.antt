@@ -1,7 +1,6 @@
 -- Which term stands where, and what is read of the powers. Assumes nothing.
 use mathlib.Core.Path.{_≡_, refl, _∙_}
 use mathlib.Core.Bool.{Bool, true, false}
-use mathlib.Core.List.{List}
 use Prim.Native.Nat.{ℕ, zero, suc, _+_, _-_, _≤_, _<_}
 use native.Mathlib.Numerals.{add-one}
 use native.Mathlib.Omega.{arith}
@@ -12,8 +11,8 @@ use borrow.Author.Tests.{eqb-true, eqb-false, leb-true, leb-false}
 use Rattle.floats.specs.Power.{powerOf}
 use Rattle.cd_plate.specs.Filled.{filled}
 use Rattle.sip_terms.specs.declared.Term.{Term}
-use Rattle.sip_terms.specs.Terms.{nextTerm, termAt, countTo, basisOf, valueTo}
-use Rattle.sip_terms.specs.Steps.{powersOf, basisIn, valueIn}
+use Rattle.sip_terms.specs.Terms.{nextTerm, termAt, countTo, basisOf}
+use Rattle.sip_terms.specs.Steps.{powersOf, basisIn}
 use Rattle.sip_terms.proofs.Told.{filled-at, filled-same}
 
 count-more : (d : ℕ) → countTo (suc d) ≡ countTo d + (d + 3)
@@ -99,11 +98,3 @@ basis-at u v i h =
 
 pub basis-filled : (u v : Float) (n : ℕ) → n ≤ 18 → filled (basisIn (powersOf u) (powersOf v)) n ≡ filled (basisOf u v) n
 basis-filled u v n h = filled-same (basisIn (powersOf u) (powersOf v)) (basisOf u v) n (λ i g. basis-at u v i (omega arith))
-
--- and so is the value
-pub value-at : (cs : List Float) (u v : Float) (k : ℕ) → k ≤ 18 → valueIn cs (powersOf u) (powersOf v) k ≡ valueTo cs u v k
-unfolding valueIn valueTo
-value-at cs u v zero h = refl
-value-at cs u v (suc k) h =
-    let g : k < 18 = omega arith in
-    rw (value-at cs u v k (omega arith), power-at u (termAt k .p) (omega (arith, low-powers k g)), power-at v (termAt k .q) (omega (arith, low-powers k g)))

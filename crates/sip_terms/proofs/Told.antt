@@ -1,12 +1,12 @@
 -- Lists that are told number by number. Assumes nothing.
-use mathlib.Core.Path.{_≡_, refl, _∙_}
+use mathlib.Core.Path.{_≡_, refl, ap, _∙_}
 use mathlib.Core.Bool.{Bool, true, false}
 use mathlib.Core.List.{List, [], _∷_, _++_}
-use Prim.Native.Nat.{ℕ, zero, suc, _+_, _<_}
-use native.Mathlib.Nat.{add-zero}
+use Prim.Native.Nat.{ℕ, zero, suc, _+_, _≤_, _<_}
+use native.Mathlib.Nat.{add-zero, not-suc-le-zero, le-of-suc-le-suc}
 use native.Mathlib.Omega.{arith}
 use lib.Dec.{ltb}
-use lib.ListN.{length, getD, drop, List·getD-append}
+use lib.ListN.{length, getD, take, drop, replicate, List·getD-append}
 use lib.Seq.{getD-at, getD-drop, getD-append-add}
 use borrow.Author.Tests.{ltb-true, ltb-false}
 use Rattle.cd_plate.specs.Filled.{filled}
@@ -38,3 +38,9 @@ front-at f k old d =
     let e : length (filled f k) + 0 ≡ k = add-zero (length (filled f k)) ∙ filled-length f k in
     let g : getD (filled f k ++ drop k old) (length (filled f k) + 0) d ≡ getD (drop k old) 0 d = getD-append-add (filled f k) (drop k old) 0 d in
     (rw e at g) ∙ getD-drop k old 0 d ∙ rw (add-zero k)
+
+-- a part of a list of one number
+pub take-replicate : {A : Type 0} (n m : ℕ) (a : A) → n ≤ m → take n (replicate m a) ≡ replicate n a
+take-replicate zero m a h = refl
+take-replicate (suc n) zero a h = absurd (not-suc-le-zero h)
+take-replicate {A} (suc n) (suc m) a h = ap (λ (t : List A). a ∷ t) (take-replicate n m a (le-of-suc-le-suc h))

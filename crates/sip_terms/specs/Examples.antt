@@ -11,6 +11,7 @@ use Rattle.cd_plate.specs.Plate.{nothing}
 use Rattle.sip_terms.specs.declared.Term.{Term}
 use Rattle.sip_terms.specs.Terms.{termAt, countTo, termCount, degreeTerms, degreesTo, monomialTerms, leastCoefficient, keptOf, valueTo, valueOf}
 
+-- u^p v^q
 abbrev uv : ℕ → ℕ → Term
 uv p q = record { p = p; q = q }
 
@@ -29,6 +30,7 @@ counts : termCount 2 ∷ termCount 3 ∷ termCount 4 ∷ termCount 5 ∷ termCou
 unfolding countTo
 counts = refl
 
+-- the last of order 5
 last-term : termAt 17 ≡ uv 0 5
 unfolding termAt
 last-term = refl
@@ -47,6 +49,7 @@ skipped : valueOf (leastCoefficient ∷ []) (inf false) nan ≡ nothing
 unfolding valueTo termAt powerOf magnitudeOf ofBits mul lt
 skipped = refl
 
+-- handed out as 0.0, and so is NaN
 dropped : keptOf leastCoefficient ∷ keptOf nan ∷ [] ≡ nothing ∷ nothing ∷ []
 unfolding keptOf magnitudeOf ofBits lt
 dropped = refl

@@ -14,6 +14,7 @@ use Rattle.sip_terms.specs.declared.Term.{Term}
 abbrev pub firstTerm : Term
 firstTerm = record { p = 2; q = 0 }
 
+-- the first where a test holds, else the second
 abbrev pub pickTerm : Bool → Term → Term → Term
 pickTerm true a b = a
 pickTerm false a b = b

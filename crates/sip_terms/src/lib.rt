@@ -1,10 +1,10 @@
-// The terms of a SIP polynomial, u^p v^q of total degree 2 up to the order, the power of u falling; and its value at a point.
+// The terms of a SIP polynomial, u^p v^q of total degree 2 up to the order, the power of u falling; and which coefficients are kept.
 ghost use mathlib.Core.Path.{_≡_};
 ghost use Prim.Native.Nat.{_+_, _<_, _≤_};
 ghost use lib.ListN.{length};
 ghost use Rattle.cd_plate.specs.Filled.{filled};
-ghost use Rattle.sip_terms.specs.Terms.{firstTerm, nextTerm, termCount, isKept, keptOf, withTerm};
-ghost use Rattle.sip_terms.specs.Steps.{powersOf, basisIn, valueIn};
+ghost use Rattle.sip_terms.specs.Terms.{firstTerm, nextTerm, termCount, isKept, keptOf};
+ghost use Rattle.sip_terms.specs.Steps.{powersOf, basisIn};
 
 // What a fit hands back beside its coefficients.
 pub struct Sip {
@@ -119,29 +119,4 @@ pub fn keep(c: f64) -> f64
     ensures { λ r. ⌜ r ≡ keptOf c ⌝ }
 {
     if is_kept(c) { c } else { 0.0 }
-}
-
-// The sum with one term more; a dropped coefficient is skipped, not added.
-fn with_term(s: f64, c: f64, x: f64, y: f64) -> f64
-    ensures { λ r. ⌜ r ≡ withTerm s c x y ⌝ }
-{
-    if is_kept(c) { s + c * x * y } else { s }
-}
-
-// The polynomial at a point, from the powers of u and v: from 0.0 in the order of the terms.
-pub fn value(cs: &[f64], up: &[f64], vp: &[f64]) -> f64
-    requires { ⌜ length (now cs) ≤ 18 ⌝ }
-    requires { ⌜ (length (now up) ≡ 6) × (length (now vp) ≡ 6) ⌝ }
-    ensures { λ r. ⌜ r ≡ valueIn (now (cs .entry)) (now (up .entry)) (now (vp .entry)) (length (now (cs .entry))) ⌝ }
-{
-    let n = cs.len();
-    let mut s = 0.0;
-    let mut t = Term::first();
-    for i in 0..n {
-        let p = t.p;
-        let q = t.q;
-        s = with_term(s, cs[i], up[p], vp[q]);
-        t = t.next();
-    }
-    s
 }

@@ -17,13 +17,15 @@ use Rattle.sip_terms.specs.Terms.{countTo}
 use Rattle.sip_sums.specs.Field.{Field, field}
 use Rattle.sip_tests.specs.Tests.{fieldAnswer, orderAnswer, testsAnswer}
 
--- a whole number as a float, and its negation
+-- a whole number as a float
 abbrev f : ℕ → Float
 f k = ofInt binary64 (pos k)
 
+-- its negation
 abbrev m : ℕ → Float
 m k = neg (f k)
 
+-- 0.5
 abbrev half : Float
 half = ofBits binary64 0x3fe0_0000_0000_0000
 
@@ -31,13 +33,15 @@ half = ofBits binary64 0x3fe0_0000_0000_0000
 abbrev past : Float
 past = ofBits binary64 0xbff8_0000_0000_0000
 
--- the WCS that changes nothing, and one whose determinant is 0.0
+-- the WCS that changes nothing
 abbrev unit : Wcs
 unit = record { crpix1 = f 0; crpix2 = f 0; cd1_1 = f 1; cd1_2 = f 0; cd2_1 = f 0; cd2_2 = f 1 }
 
+-- one whose determinant is 0.0
 abbrev flat : Wcs
 flat = record { crpix1 = f 0; crpix2 = f 0; cd1_1 = f 1; cd1_2 = f 1; cd2_1 = f 1; cd2_2 = f 1 }
 
+-- six times the same
 abbrev six : Float → List Float
 six x = replicate 6 x
 
@@ -46,19 +50,22 @@ abbrev bent : Wcs → List Float → Field
 bent w snr =
     field (rows (f 1 ∷ m 1 ∷ f 1 ∷ m 1 ∷ f 1 ∷ m 1 ∷ []) (f 0 ∷ f 0 ∷ f 1 ∷ f 1 ∷ m 1 ∷ m 1 ∷ []) (half ∷ past ∷ half ∷ past ∷ half ∷ past ∷ []) (f 0 ∷ f 0 ∷ f 1 ∷ f 1 ∷ m 1 ∷ m 1 ∷ [])) snr w
 
--- the refusals in their order, each of an input that later tests would refuse too
+-- the refusals in their order, each of an input that later tests would refuse too: 101 snr
 too-many : testsAnswer (bent flat (replicate 101 (m 1))) 6 0 0 ≡ Refused Count
 unfolding fieldAnswer
 too-many = refl
 
+-- one snr for six rows
 unlike-lengths : testsAnswer (bent flat (m 1 ∷ [])) 6 0 0 ≡ Refused Lengths
 unfolding fieldAnswer
 unlike-lengths = refl
 
+-- an snr below zero
 below-zero : testsAnswer (bent flat (six (m 1))) 6 0 0 ≡ Refused Value
 unfolding fieldAnswer positionRows every isWcs isCd ofBits ofInt neg lt le eq
 below-zero = refl
 
+-- an order of 6
 no-order : testsAnswer (bent flat (six (f 1))) 6 0 0 ≡ Refused Order
 unfolding fieldAnswer orderAnswer positionRows every isWcs isCd ofBits ofInt neg lt le eq
 no-order = refl
@@ -68,10 +75,12 @@ few-rows : testsAnswer (bent flat (six (f 1))) 3 0 0 ≡ Refused Rows
 unfolding fieldAnswer orderAnswer positionRows every isWcs isCd countTo ofBits ofInt neg lt le eq
 few-rows = refl
 
+-- two places for three terms
 no-room : testsAnswer (bent flat (six (f 1))) 2 3 2 ≡ Refused Room
 unfolding fieldAnswer orderAnswer positionRows every isWcs isCd countTo ofBits ofInt neg lt le eq
 no-room = refl
 
+-- a determinant of 0.0
 no-determinant : testsAnswer (bent flat (six (f 1))) 2 3 3 ≡ Refused Degenerate
 unfolding fieldAnswer orderAnswer positionRows every isWcs isCd countTo determinantOf magnitudeOf ofBits ofInt sub mul neg lt le eq
 no-determinant = refl

@@ -37,7 +37,7 @@ fieldAnswer f =
     (cond (not (goodField f)) (answer.Refused refusal.Value)
     answer.Done))
 
--- whether an order is fitted: 2 to 5
+-- an order that is not fitted: one outside 2 to 5
 abbrev pub noOrder : ℕ → Bool
 noOrder order = ltb order 2 || ltb 5 order
 

@@ -1,69 +1,42 @@
--- `sip_clip::put_errors` meets its contract: after k rows the first k places are filled. Assumes nothing.
+-- `sip_clip::put_errors` meets its contract: the lists that are lent are of zeros. Assumes nothing.
+use Rattle.sip_terms.proofs.Told.{take-replicate}
+use lib.Seq.{length-take-le}
+use Rattle.cd_plate.specs.Plate.{nothing}
+use lib.ListN.{length}
+use mathlib.Core.Path.{sym}
 use borrow.Author.Needs.{needs}
-use Rattle.sip_clip.specs.Clip.{errorAt}
-use Rattle.cd_plate.proofs.Filling.{Front, start, again}
-use Rattle.rows.specs.Rows.{rows}
-use lib.ListN.{length, drop-of-length-le}
-use native.Mathlib.Omega.{arith}
-use mathlib.Core.List.{append-nil}
-use mathlib.Core.Path.{_≡_, _∙_}
-use Prim.Native.Nat.{_≤_, _-_}
 use Rattle.sip_clip.proofs.put_errors.Statement.{statement}
 use Rattle.sip_clip.proofs.put_errors.Tie as tie
 
-abbrev Inv-loop : tie.InvT-loop
-Inv-loop px py xi eta wcs mask a b errors₀ k₀ k-end errors k = Front (errorAt (rows px py xi eta) wcs mask a b) errors₀ errors k × (k ≤ length px) × (k-end ≡ length px)
+array-borrow-prefix-x : tie.Need-array-borrow-prefix-x
+array-borrow-prefix-x c = c .before .before .before .before .before .before .before .before .before .before .pre .1 .1 .1 .1 .1 .0 .2
 
-abbrev μ-loop : tie.MeasureT-loop
-μ-loop px py xi eta wcs mask a b errors₀ k₀ k-end errors k = length px - k
+slice-aggregate-put-errors-in : tie.Need-slice-aggregate-put-errors-in
+slice-aggregate-put-errors-in c = sym (length-take-le _ _ (c .before .before .before .before .before .before .before .before .before .before .before .pre .1 .1 .1 .1 .1 .0 .2))
 
-loop-holds : tie.Need-loop-holds Inv-loop μ-loop
-loop-holds c = (start, search needs, search needs)
+array-borrow-prefix-y : tie.Need-array-borrow-prefix-y
+array-borrow-prefix-y c = c .before .before .before .before .before .before .before .before .before .before .before .pre .1 .1 .1 .1 .1 .0 .2
 
-offset-at-requires : tie.Need-offset-at-requires Inv-loop μ-loop
-offset-at-requires c κs = search needs
+slice-aggregate-put-errors-in-2 : tie.Need-slice-aggregate-put-errors-in-2
+slice-aggregate-put-errors-in-2 c = sym (length-take-le _ _ (c .before .before .before .before .before .before .before .before .before .before .before .before .pre .1 .1 .1 .1 .1 .0 .2))
 
-shared-slice-read-error-if : tie.Need-shared-slice-read-error-if Inv-loop μ-loop
-shared-slice-read-error-if c = search needs
+put-errors-in-requires : tie.Need-put-errors-in-requires
+put-errors-in-requires c κs = let s = c .before .before .before .before .before .before .before .before .before .before .before .before .before in let z = take-replicate (length (s .args .px .now)) 100 nothing (s .pre .1 .1 .1 .1 .1 .0 .2) in (s .pre .0, (s .pre .1 .0, (s .pre .1 .1 .0, (s .pre .1 .1 .1 .0, (s .pre .1 .1 .1 .1 .0, (s .pre .1 .1 .1 .1 .1 .0, (s .pre .1 .1 .1 .1 .1 .1, (z, z))))))))
 
-error-if-requires : tie.Need-error-if-requires Inv-loop μ-loop
-error-if-requires c κs = search needs
+same-length : tie.Need-same-length
+same-length c = search needs
 
-mul-errors : tie.Need-mul-errors Inv-loop μ-loop
-mul-errors c = search needs
-
-slice-write-errors : tie.Need-slice-write-errors Inv-loop μ-loop
-slice-write-errors c = omega (arith, c .before .before .before .before .loop .inv .0 .long)
-
-add-k : tie.Need-add-k Inv-loop μ-loop
-add-k c = search needs
-
-loop-less : tie.Need-loop-less Inv-loop μ-loop
-loop-less c = search needs
-
-loop-again : tie.Need-loop-again Inv-loop μ-loop
-loop-again c = (again (c .error-if .result) (c .before .before .before .before .loop .inv .0) (omega arith) (rw (c .error-if .ensures, c .before .before .offset-at .ensures)), omega arith, search needs)
-
-same-length : tie.Need-same-length Inv-loop μ-loop
-same-length c = c .before .loop .inv .0 .long
-
-returns : tie.Need-returns Inv-loop μ-loop
-returns c = let l = c .before .loop in let a = c .before .before .before .before .before .before .before .before .before .before .args in let e : l .k ≡ length (a .px .now) = omega arith in l .inv .0 .is ∙ rw (e, drop-of-length-le (a .errors .now) {i = length (a .px .now)} (omega arith), append-nil)
+returns : tie.Need-returns
+returns c = c .before .before .before .before .put-errors-in .ensures
 
 pub put-errors-spec : {M : Type 1} → statement M
 put-errors-spec =
     tie.close
     (tie.spec
-    Inv-loop
-    μ-loop
-    loop-holds
-    offset-at-requires
-    shared-slice-read-error-if
-    error-if-requires
-    mul-errors
-    slice-write-errors
-    add-k
-    loop-less
-    loop-again
+    array-borrow-prefix-x
+    slice-aggregate-put-errors-in
+    array-borrow-prefix-y
+    slice-aggregate-put-errors-in-2
+    put-errors-in-requires
     same-length
     returns)
