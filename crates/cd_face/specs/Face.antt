@@ -16,7 +16,7 @@ use Rattle.cd_fit.specs.declared.CdFit.{CdFit}
 use Rattle.cd_fit.specs.declared.CdFit.the-variants as fit
 use Rattle.cd_fit.specs.Fit as weights
 use Rattle.cd_errors.specs.Errors.{errorsAnswer, pixelErrors}
-use Rattle.cd_residuals.specs.declared.Wcs.{Wcs}
+use Rattle.wcs.specs.Wcs.{wcsIn}
 use Rattle.cd_residuals.specs.Residuals.{residualsDone}
 use Rattle.cd_rms.specs.declared.Rms.{Rms}
 use Rattle.cd_rms.specs.declared.Rms.the-variants as rms
@@ -35,17 +35,6 @@ fitWritten (fit.Refused why) = []
 -- the weighted fit
 abbrev pub weightedFit : Rows → List ℕ → List Float → CdFit
 weightedFit = weights.weightedAnswer
-
--- the WCS that six numbers make
-unfoldable pub wcsIn : List Float → Wcs
-wcsIn l = record {
-  crpix1 = getD l 0 nan;
-  crpix2 = getD l 1 nan;
-  cd1_1 = getD l 2 nan;
-  cd1_2 = getD l 3 nan;
-  cd2_1 = getD l 4 nan;
-  cd2_2 = getD l 5 nan;
-}
 
 -- an answer where a list that is read has six numbers; else number 1 where there are too many rows, and then number 2
 abbrev pub ofSix : List Float → Bool → Answer → Answer

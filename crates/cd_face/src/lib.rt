@@ -2,10 +2,10 @@
 use cd_fit::CdFit;
 use cd_plate::Cd;
 use cd_residuals::Residuals;
-use cd_residuals::Wcs;
 use cd_rms::Rms;
 use domain::Answer;
 use domain::Refusal;
+use wcs::Wcs;
 ghost use mathlib.Core.Path.{_≡_};
 ghost use Prim.Native.Nat.{_≤_};
 ghost use lib.ListN.{length};
@@ -14,22 +14,8 @@ ghost use Rattle.rows.specs.Rows.{rows};
 ghost use Rattle.cd_fit.specs.Fit.{fitAnswer};
 ghost use Rattle.cd_normal.specs.Normal.{normalSolved, unknownsOf, normalAnswer};
 ghost use Rattle.cd_residuals.specs.Residuals.{residualsX, residualsY, residualsPx, foundOf};
-ghost use Rattle.cd_face.specs.Face.{fitFace, fitWritten, weightedFit, wcsIn, errorsFace, errorsWritten, residualsFace, valueAfter, rmsDone, rmsIn, rmsFace, rmsValue, weightedFace, weightedValue};
-
-// The WCS that six numbers make.
-pub fn wcs_in(m: &[f64]) -> Wcs
-    requires { ⌜ 6 ≤ length (now m) ⌝ }
-    ensures { λ r. ⌜ r ≡ wcsIn (now (m .entry)) ⌝ }
-{
-    Wcs {
-        crpix1: m[0],
-        crpix2: m[1],
-        cd1_1: m[2],
-        cd1_2: m[3],
-        cd2_1: m[4],
-        cd2_2: m[5],
-    }
-}
+ghost use Rattle.cd_face.specs.Face.{fitFace, fitWritten, weightedFit, errorsFace, errorsWritten, residualsFace, valueAfter, rmsDone, rmsIn, rmsFace, rmsValue, weightedFace, weightedValue};
+ghost use Rattle.wcs.specs.Wcs.{wcsIn};
 
 // What a fit comes to in a list that may lack room.
 fn put_fit(fit: CdFit, cd: &mut [f64]) -> u32
@@ -145,7 +131,7 @@ pub fn compute_residuals(
         }
         return Refusal::Count.number();
     }
-    match cd_residuals::compute_residuals(px, py, xi, eta, wcs_in(wcs), x, y, all) {
+    match cd_residuals::compute_residuals(px, py, xi, eta, Wcs::of(wcs), x, y, all) {
         Residuals::Refused(why) => why.number(),
         Residuals::Found(count) => {
             *residuals = count as u64;

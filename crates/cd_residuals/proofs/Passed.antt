@@ -12,8 +12,9 @@ use Rattle.domain.proofs.Passed.{passed, neither}
 use Rattle.domain.specs.declared.Answer.the-variants as answer
 use Rattle.rows.specs.Rows.{Rows, count, fewRows, evenRows}
 use Rattle.cd_plate.specs.Plate.{leastDeterminant, determinantOf}
-use Rattle.cd_residuals.specs.declared.Wcs.{Wcs}
-use Rattle.cd_residuals.specs.Residuals.{plateOf, inputAnswer, foundOf, roomAnswer}
+use Rattle.wcs.specs.declared.Wcs.{Wcs}
+use Rattle.cd_residuals.specs.Residuals.{inputAnswer, foundOf, roomAnswer}
+use Rattle.wcs.specs.Wcs.{plateOf}
 
 -- four lists of one length
 pub record Even (r : Rows) : Type 0 where

@@ -9,9 +9,10 @@ use Rattle.domain.specs.declared.Refusal.the-variants.{Value, Room}
 use Rattle.rows.specs.Rows.{Rows, rows, positionRows}
 use Rattle.cd_plate.specs.Plate.{nothing, determinantOf, isCd, inverseOf}
 use Rattle.cd_plate.specs.Filled.{filled}
-use Rattle.cd_residuals.specs.declared.Wcs.{Wcs}
+use Rattle.wcs.specs.declared.Wcs.{Wcs}
 use Rattle.cd_residuals.specs.declared.Residuals.the-variants as residuals
-use Rattle.cd_residuals.specs.Residuals.{isWcs, inputAnswer, foundOf, residualOf, residualsPx, residualsAnswer}
+use Rattle.cd_residuals.specs.Residuals.{inputAnswer, foundOf, residualOf, residualsPx, residualsAnswer}
+use Rattle.wcs.specs.Wcs.{isWcs}
 
 abbrev one : Float
 one = ofBits binary64 0x3ff0_0000_0000_0000

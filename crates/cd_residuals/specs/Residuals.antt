@@ -17,18 +17,11 @@ use Rattle.cd_plate.specs.declared.Cd.{Cd}
 use Rattle.cd_plate.specs.declared.Inverse.{Inverse}
 use Rattle.cd_plate.specs.Plate.{_⊕_, _⊖_, _⊗_, nothing, leastDeterminant, determinantOf, isCd, inverseOf}
 use Rattle.cd_plate.specs.Filled.{filled}
-use Rattle.cd_residuals.specs.declared.Wcs.{Wcs}
+use Rattle.wcs.specs.declared.Wcs.{Wcs}
+use Rattle.wcs.specs.Wcs.{plateOf, isWcs}
 use Rattle.cd_residuals.specs.declared.Residual.{Residual}
 use Rattle.cd_residuals.specs.declared.Residuals.{Residuals}
 use Rattle.cd_residuals.specs.declared.Residuals.the-variants as residuals
-
--- the factors as a plate that adds nothing
-abbrev pub plateOf : Wcs → Cd
-plateOf w = record { cd1_1 = w .cd1_1; cd1_2 = w .cd1_2; xi0 = nothing; cd2_1 = w .cd2_1; cd2_2 = w .cd2_2; eta0 = nothing }
-
--- the reference pixel is a position, and each factor is finite
-unfoldable pub isWcs : Wcs → Bool
-isWcs w = (isPosition (w .crpix1) && isPosition (w .crpix2)) && isCd (plateOf w)
 
 -- what the tests of the input come to: number 1, 2 or 3, or done
 unfoldable pub inputAnswer : Rows → Wcs → Answer

@@ -4,6 +4,7 @@ use cd_plate::Inverse;
 use domain::Answer;
 use domain::Refusal;
 use rows::Row;
+use wcs::Wcs;
 ghost use mathlib.Core.Path.{_≡_};
 ghost use Prim.Native.Nat.{_≤_};
 ghost use lib.ListN.{length};
@@ -11,42 +12,8 @@ ghost use Rattle.domain.specs.Answers.{written, lentAfter};
 ghost use Rattle.rows.specs.Rows.{rows};
 ghost use Rattle.cd_plate.specs.Plate.{inverseOf};
 ghost use Rattle.cd_plate.specs.Filled.{filled};
-ghost use Rattle.cd_residuals.specs.Residuals.{plateOf, isWcs, inputAnswer, foundOf, residualOf, xAt, yAt, pxAt, roomAnswer};
+ghost use Rattle.cd_residuals.specs.Residuals.{inputAnswer, foundOf, residualOf, xAt, yAt, pxAt, roomAnswer};
 ghost use Rattle.cd_residuals.specs.Residuals.{residualsDone, residualsAnswer, residualsNumber, foundAfter, residualsX, residualsY, residualsPx};
-
-// The reference pixel, and the factors from pixels to degrees.
-pub struct Wcs {
-    pub crpix1: f64,
-    pub crpix2: f64,
-    pub cd1_1: f64,
-    pub cd1_2: f64,
-    pub cd2_1: f64,
-    pub cd2_2: f64,
-}
-
-impl Wcs {
-    // Its factors as a plate that adds nothing.
-    fn plate(self) -> Cd
-        ensures { λ r. ⌜ r ≡ plateOf self ⌝ }
-    {
-        Cd {
-            cd1_1: self.cd1_1,
-            cd1_2: self.cd1_2,
-            xi0: 0.0,
-            cd2_1: self.cd2_1,
-            cd2_2: self.cd2_2,
-            eta0: 0.0,
-        }
-    }
-
-    // Whether the reference pixel is a position, and each factor finite.
-    pub fn is_taken(self) -> bool
-        ensures { λ r. ⌜ r ≡ isWcs self ⌝ }
-    {
-        let pixel = domain::is_position(self.crpix1) & domain::is_position(self.crpix2);
-        pixel & self.plate().is_finite()
-    }
-}
 
 // The answer of compute_residuals: how many residuals were written.
 pub enum Residuals {

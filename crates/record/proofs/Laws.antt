@@ -17,8 +17,8 @@ use Rattle.domain.proofs.Passed.{passed}
 use Rattle.domain.specs.declared.Refusal.{Refusal}
 use Rattle.domain.specs.declared.Refusal.the-variants as refusal
 use Rattle.domain.specs.declared.Answer.the-variants as answer
-use Rattle.cd_residuals.specs.declared.Wcs.{Wcs}
-use Rattle.cd_residuals.specs.Residuals.{isWcs}
+use Rattle.wcs.specs.declared.Wcs.{Wcs}
+use Rattle.wcs.specs.Wcs.{isWcs}
 use Rattle.sip_terms.specs.declared.Sip.{Sip}
 use Rattle.sip_terms.specs.declared.Term.{Term}
 use Rattle.sip_terms.specs.Terms.{firstTerm, nextTerm, isKept, termCount}

@@ -8,8 +8,8 @@ use Rattle.floats.specs.Magnitude.{magnitudeOf}
 use Rattle.text.specs.Put.{hexFrom, decimalFrom, decimalOf, decimalLine, floatLine}
 use Rattle.domain.specs.declared.Refusal.the-variants.{Count, Lengths, Value, Order, Room}
 use Rattle.cd_plate.specs.Plate.{nothing, isCd}
-use Rattle.cd_residuals.specs.declared.Wcs.{Wcs}
-use Rattle.cd_residuals.specs.Residuals.{isWcs}
+use Rattle.wcs.specs.declared.Wcs.{Wcs}
+use Rattle.wcs.specs.Wcs.{isWcs}
 use Rattle.sip_terms.specs.declared.Sip.{Sip}
 use Rattle.sip_terms.specs.Terms.{countTo, leastCoefficient}
 use Rattle.record_lines.specs.Lines.{Solution, termLines, recordOf, textOf}

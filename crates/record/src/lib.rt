@@ -1,10 +1,10 @@
 // `write_record`: the record of a solution, written into lent bytes.
-use cd_residuals::Wcs;
 use domain::Answer;
 use domain::Refusal;
 use record_lines::Axis;
 use record_lines::Head;
 use sip_terms::Sip;
+use wcs::Wcs;
 ghost use mathlib.Core.Path.{_≡_};
 ghost use Prim.Native.Nat.{_≤_};
 ghost use lib.ListN.{length};

@@ -8,7 +8,7 @@ use lib.Ieee.{Float, nan}
 use Rattle.domain.specs.declared.Refusal.the-variants as refusal
 use Rattle.domain.specs.declared.Answer.{Answer}
 use Rattle.domain.specs.declared.Answer.the-variants as answer
-use Rattle.cd_face.specs.Face.{wcsIn}
+use Rattle.wcs.specs.Wcs.{wcsIn}
 use Rattle.sip_terms.specs.declared.Sip.{Sip}
 use Rattle.record_lines.specs.Lines.{Solution}
 use Rattle.record.specs.Record.{solution, recordDone}

@@ -2,6 +2,7 @@
 use domain::Refusal;
 use record::Recorded;
 use sip_terms::Sip;
+use wcs::Wcs;
 ghost use mathlib.Core.Path.{_≡_};
 ghost use Prim.Native.Nat.{_≤_};
 ghost use lib.ListN.{length};
@@ -52,7 +53,7 @@ pub fn write_record(
         return Refusal::Lengths.number();
     }
     let fit = sip_in(rows, sums);
-    match record::write_record(fit, cd_face::wcs_in(wcs), order, a, b, text) {
+    match record::write_record(fit, Wcs::of(wcs), order, a, b, text) {
         Recorded::Refused(why) => why.number(),
         Recorded::Written(count) => {
             *written = count as u64;

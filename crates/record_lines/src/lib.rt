@@ -1,7 +1,7 @@
 // The lines of a record, put into lent bytes at a place. Each function returns the place after its text.
-use cd_residuals::Wcs;
 use sip_terms::Sip;
 use sip_terms::Term;
+use wcs::Wcs;
 ghost use mathlib.Core.Path.{_≡_};
 ghost use Prim.Native.Nat.{_+_, _<_, _≤_};
 ghost use lib.ListN.{length};

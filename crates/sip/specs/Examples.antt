@@ -14,8 +14,8 @@ use Rattle.rows.specs.Rows.{rows, positionRows}
 use Rattle.cd_mask.specs.Marks.{ones}
 use Rattle.cd_plate.specs.Plate.{determinantOf, isCd}
 use Rattle.cd_plate.specs.Filled.{filled}
-use Rattle.cd_residuals.specs.declared.Wcs.{Wcs}
-use Rattle.cd_residuals.specs.Residuals.{isWcs}
+use Rattle.wcs.specs.declared.Wcs.{Wcs}
+use Rattle.wcs.specs.Wcs.{isWcs}
 use Rattle.elimination.specs.Elimination.{pivotRow, eliminateFrom, rowLess, unknownsTo}
 use Rattle.sip_terms.specs.Terms.{termAt, countTo, keptOf, valueTo}
 use Rattle.sip_sums.specs.Field.{Field, field, offsetOf}

@@ -1,8 +1,8 @@
 // `fit_sip`: the SIP polynomials of rows under a WCS.
-use cd_residuals::Wcs;
 use domain::Answer;
 use domain::Refusal;
 use sip_terms::Sip;
+use wcs::Wcs;
 ghost use mathlib.Core.Path.{_≡_};
 ghost use Prim.Native.Nat.{_+_, _*_, _≤_};
 ghost use lib.ListN.{length, replicate};

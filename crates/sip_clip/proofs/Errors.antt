@@ -6,7 +6,7 @@ use lib.ListN.{length, getD}
 use lib.Ieee.{Float, nan}
 use Rattle.rows.specs.Rows.{Rows, count}
 use Rattle.cd_plate.specs.Filled.{filled}
-use Rattle.cd_residuals.specs.declared.Wcs.{Wcs}
+use Rattle.wcs.specs.declared.Wcs.{Wcs}
 use Rattle.elimination.specs.Elimination.{cells}
 use Rattle.sip_terms.specs.Terms.{valueOf}
 use Rattle.sip_terms.proofs.Told.{filled-at, filled-same}

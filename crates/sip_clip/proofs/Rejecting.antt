@@ -13,7 +13,7 @@ use Rattle.cd_mask.specs.Marks.{byteOf, ones}
 use Rattle.cd_mask.proofs.Marking.{byte-le}
 use Rattle.cd_plate.specs.Masked.{isOn}
 use Rattle.cd_plate.specs.Filled.{filled}
-use Rattle.cd_residuals.specs.declared.Wcs.{Wcs}
+use Rattle.wcs.specs.declared.Wcs.{Wcs}
 use Rattle.sip_terms.proofs.Told.{filled-at, filled-same}
 use Rattle.sip_clip.specs.Clip.{errorAt, errorsOf, rootAt, rootsOf, isPast, rejectedTo, byteAt, clipped, clipBy, limitIn, clipOf}
 use Rattle.sip_clip.specs.Steps.{pastIn, rejectedIn, maskIn}

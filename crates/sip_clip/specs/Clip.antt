@@ -11,7 +11,7 @@ use Rattle.cd_mask.specs.Marks.{byteOf, ones}
 use Rattle.cd_plate.specs.Plate.{_⊕_, _⊖_, _⊗_, _⊘_, nothing}
 use Rattle.cd_plate.specs.Masked.{isOn}
 use Rattle.cd_plate.specs.Filled.{filled}
-use Rattle.cd_residuals.specs.declared.Wcs.{Wcs}
+use Rattle.wcs.specs.declared.Wcs.{Wcs}
 use Rattle.sip_terms.specs.Terms.{valueOf}
 use Rattle.sip_sums.specs.declared.Offset.{Offset}
 use Rattle.sip_sums.specs.Field.{offsetAt, weightAt}

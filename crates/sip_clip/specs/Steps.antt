@@ -9,7 +9,7 @@ use Rattle.rows.specs.Rows.{Rows}
 use Rattle.cd_plate.specs.Plate.{_⊕_, _⊖_, _⊗_, nothing}
 use Rattle.cd_plate.specs.Masked.{isOn}
 use Rattle.cd_plate.specs.Filled.{filled}
-use Rattle.cd_residuals.specs.declared.Wcs.{Wcs}
+use Rattle.wcs.specs.declared.Wcs.{Wcs}
 use Rattle.sip_sums.specs.declared.Offset.{Offset}
 use Rattle.sip_sums.specs.Field.{offsetAt}
 use Rattle.sip_clip.specs.Clip.{rejectedTo, byteAt}

@@ -1,7 +1,7 @@
 // The errors of the rows under a SIP fit, and the clip that turns off the rows past its limit.
-use cd_residuals::Wcs;
 use sip_sums::Offset;
 use sip_terms::Sip;
+use wcs::Wcs;
 ghost use mathlib.Core.Path.{_≡_};
 ghost use mathlib.Core.Bool.{cond};
 ghost use Prim.Native.Nat.{_≤_};

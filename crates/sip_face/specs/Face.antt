@@ -6,7 +6,8 @@ use lib.Dec.{ltb}
 use lib.Ieee.{Float}
 use Rattle.domain.specs.declared.Answer.{Answer}
 use Rattle.rows.specs.Rows.{Rows}
-use Rattle.cd_face.specs.Face.{wcsIn, ofSix}
+use Rattle.cd_face.specs.Face.{ofSix}
+use Rattle.wcs.specs.Wcs.{wcsIn}
 use Rattle.sip_terms.specs.declared.Sip.{Sip}
 use Rattle.sip_sums.specs.Field.{Field, field}
 use Rattle.sip_tests.specs.Tests.{fewField}

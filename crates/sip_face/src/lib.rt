@@ -1,14 +1,14 @@
 // `fit_sip` for C: it answers its number, and writes its result into what is lent.
-use cd_residuals::Wcs;
 use domain::Refusal;
 use sip::SipFit;
 use sip_terms::Sip;
+use wcs::Wcs;
 ghost use mathlib.Core.Path.{_≡_};
 ghost use Prim.Native.Nat.{_≤_};
 ghost use lib.ListN.{length};
 ghost use Rattle.domain.specs.Answers.{answerNumber, written, lentAfter, numberAfter};
 ghost use Rattle.rows.specs.Rows.{rows};
-ghost use Rattle.cd_face.specs.Face.{wcsIn};
+ghost use Rattle.wcs.specs.Wcs.{wcsIn};
 ghost use Rattle.sip_sums.specs.Field.{field};
 ghost use Rattle.sip.specs.Call.{answerOf, sipAnswer, sipA, sipB};
 ghost use Rattle.sip_face.specs.Face.{sumsOf, usedIn, sumsIn, sipTold, sipFace};
@@ -18,21 +18,6 @@ const MOST_ROWS: usize = 100;
 
 // The three sums.
 const SUMS: usize = 3;
-
-// The WCS that six numbers make.
-fn wcs_in(m: &[f64]) -> Wcs
-    requires { ⌜ 6 ≤ length (now m) ⌝ }
-    ensures { λ r. ⌜ r ≡ wcsIn (now (m .entry)) ⌝ }
-{
-    Wcs {
-        crpix1: m[0],
-        crpix2: m[1],
-        cd1_1: m[2],
-        cd1_2: m[3],
-        cd2_1: m[4],
-        cd2_2: m[5],
-    }
-}
 
 // The numbers of a fit into what is lent.
 fn put_sip(s: Sip, rows_used: &mut u64, sums: &mut [f64])
@@ -119,7 +104,7 @@ pub fn fit_sip(
         }
         return Refusal::Count.number();
     }
-    let w = wcs_in(wcs);
+    let w = Wcs::of(wcs);
     if sums.len() < SUMS {
         return fit_roomless(px, py, xi, eta, snr, w, order, a, b);
     }

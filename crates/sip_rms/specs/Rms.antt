@@ -11,7 +11,7 @@ use Rattle.rows.specs.Rows.{Rows, count}
 use Rattle.cd_mask.specs.Marks.{ones}
 use Rattle.cd_plate.specs.Plate.{_⊕_, _⊗_, _⊘_, nothing}
 use Rattle.cd_plate.specs.Masked.{isOn}
-use Rattle.cd_residuals.specs.declared.Wcs.{Wcs}
+use Rattle.wcs.specs.declared.Wcs.{Wcs}
 use Rattle.sip_terms.specs.declared.Sip.{Sip}
 use Rattle.sip_sums.specs.declared.Offset.{Offset}
 use Rattle.sip_sums.specs.Field.{offsetAt, weightAt}

@@ -1,7 +1,7 @@
 // What a SIP fit says of itself: the rows used, and the root mean squares before and after.
-use cd_residuals::Wcs;
 use sip_sums::Offset;
 use sip_terms::Sip;
+use wcs::Wcs;
 ghost use mathlib.Core.Path.{_≡_};
 ghost use Prim.Native.Nat.{_≤_};
 ghost use lib.ListN.{length};

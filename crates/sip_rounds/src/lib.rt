@@ -1,7 +1,7 @@
 // The rounds of a SIP fit: both solves, the errors and a clip, until a clip turns no row off.
-use cd_residuals::Wcs;
 use domain::Answer;
 use sip_terms::Sip;
+use wcs::Wcs;
 ghost use mathlib.Core.Path.{_≡_};
 ghost use Prim.Native.Nat.{_≤_};
 ghost use lib.ListN.{length};

@@ -11,7 +11,7 @@ use Rattle.rows.specs.Rows.{rows}
 use Rattle.cd_mask.specs.Marks.{ones}
 use Rattle.cd_plate.specs.Plate.{determinantOf}
 use Rattle.cd_plate.specs.Filled.{filled}
-use Rattle.cd_residuals.specs.declared.Wcs.{Wcs}
+use Rattle.wcs.specs.declared.Wcs.{Wcs}
 use Rattle.elimination.specs.Elimination.{pivotRow, eliminateFrom, rowLess, unknownsTo}
 use Rattle.sip_terms.specs.Terms.{termAt, keptOf}
 use Rattle.sip_sums.specs.Field.{Field, field, offsetOf}

@@ -7,7 +7,7 @@ use lib.Ieee.{Float, binary64, ofBits, ofInt, add, sub, mul, div, neg}
 use Rattle.floats.specs.Power.{powerOf}
 use Rattle.rows.specs.Rows.{rows}
 use Rattle.cd_plate.specs.Plate.{determinantOf}
-use Rattle.cd_residuals.specs.declared.Wcs.{Wcs}
+use Rattle.wcs.specs.declared.Wcs.{Wcs}
 use Rattle.sip_terms.specs.Terms.{termAt}
 use Rattle.sip_sums.specs.Field.{Field, field, offsetOf, offsetAt}
 use Rattle.sip_sums.specs.Normal.{xOf, yOf, entryTo, equationsOf}

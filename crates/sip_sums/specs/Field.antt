@@ -6,8 +6,8 @@ use lib.Ieee.{Float, nan, neg}
 use Rattle.rows.specs.Rows.{Rows, rowAt}
 use Rattle.rows.specs.declared.Row.{Row}
 use Rattle.cd_plate.specs.Plate.{_⊕_, _⊖_, _⊗_, _⊘_, determinantOf}
-use Rattle.cd_residuals.specs.Residuals.{plateOf}
-use Rattle.cd_residuals.specs.declared.Wcs.{Wcs}
+use Rattle.wcs.specs.Wcs.{plateOf}
+use Rattle.wcs.specs.declared.Wcs.{Wcs}
 use Rattle.sip_sums.specs.declared.Offset.{Offset}
 
 -- what a fit reads: the rows, the snr of each, and the WCS

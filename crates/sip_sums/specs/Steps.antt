@@ -9,7 +9,7 @@ use lib.Ieee.{Float, nan}
 use Rattle.rows.specs.Rows.{Rows, count}
 use Rattle.cd_plate.specs.Plate.{_⊕_, _⊗_, nothing}
 use Rattle.cd_plate.specs.Masked.{isOn}
-use Rattle.cd_residuals.specs.declared.Wcs.{Wcs}
+use Rattle.wcs.specs.declared.Wcs.{Wcs}
 use Rattle.elimination.specs.Elimination.{Matrix}
 use Rattle.elimination.specs.Holds.{Holds}
 use Rattle.sip_terms.specs.Terms.{basisOf}

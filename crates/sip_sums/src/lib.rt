@@ -1,14 +1,14 @@
 // The rows of a SIP fit, and the sums of its normal equations over the rows that are on, for both axes in one pass.
 use cd_plate::Cd;
-use cd_residuals::Wcs;
 use rows::Row;
+use wcs::Wcs;
 ghost use mathlib.Core.Path.{_≡_};
 ghost use Prim.Native.Nat.{_+_, _*_, _≤_, _<_};
 ghost use lib.ListN.{length, replicate};
 ghost use Rattle.rows.specs.Rows.{rows};
 ghost use Rattle.cd_plate.specs.Plate.{nothing};
 ghost use Rattle.cd_plate.specs.Filled.{filled};
-ghost use Rattle.cd_residuals.specs.Residuals.{plateOf};
+ghost use Rattle.wcs.specs.Wcs.{plateOf};
 ghost use Rattle.elimination.specs.Elimination.{cells};
 ghost use Rattle.elimination.specs.Holds.{Holds};
 ghost use Rattle.sip_sums.specs.Field.{offsetOf, offsetAt};
@@ -22,25 +22,11 @@ pub struct Offset {
     pub dv: f64,
 }
 
-// The factors of a WCS as a plate that adds nothing.
-pub fn plate_of(wcs: Wcs) -> Cd
-    ensures { λ r. ⌜ r ≡ plateOf wcs ⌝ }
-{
-    Cd {
-        cd1_1: wcs.cd1_1,
-        cd1_2: wcs.cd1_2,
-        xi0: 0.0,
-        cd2_1: wcs.cd2_1,
-        cd2_2: wcs.cd2_2,
-        eta0: 0.0,
-    }
-}
-
 // One row, seen from the reference pixel. A factor is negated before it is multiplied.
 fn offset_of(wcs: Wcs, row: Row) -> Offset
     ensures { λ r. ⌜ r ≡ offsetOf wcs row ⌝ }
 {
-    let det = plate_of(wcs).determinant();
+    let det = wcs.plate().determinant();
     let x = (wcs.cd2_2 * row.xi - wcs.cd1_2 * row.eta) / det + wcs.crpix1;
     let y = (-wcs.cd2_1 * row.xi + wcs.cd1_1 * row.eta) / det + wcs.crpix2;
     Offset {

@@ -8,7 +8,7 @@ use borrow.Author.Tests.{leb-true, eqb-true, ltb-false, not-false}
 use Rattle.domain.proofs.Passed.{passed, both, neither}
 use Rattle.domain.specs.declared.Answer.the-variants as answer
 use Rattle.rows.specs.Rows.{count, fewRows, evenRows}
-use Rattle.cd_residuals.specs.declared.Wcs.{Wcs}
+use Rattle.wcs.specs.declared.Wcs.{Wcs}
 use Rattle.sip_terms.specs.Terms.{termCount}
 use Rattle.sip_sums.specs.Field.{Field}
 use Rattle.sip_tests.specs.Tests.{fewField, evenField, fieldAnswer, noOrder, orderAnswer, testsAnswer}

@@ -11,8 +11,8 @@ use Rattle.domain.specs.declared.Refusal.the-variants.{Count, Lengths, Value, O
 use Rattle.domain.specs.declared.Answer.the-variants.{Done, Refused}
 use Rattle.rows.specs.Rows.{rows, positionRows}
 use Rattle.cd_plate.specs.Plate.{determinantOf, isCd}
-use Rattle.cd_residuals.specs.declared.Wcs.{Wcs}
-use Rattle.cd_residuals.specs.Residuals.{isWcs}
+use Rattle.wcs.specs.declared.Wcs.{Wcs}
+use Rattle.wcs.specs.Wcs.{isWcs}
 use Rattle.sip_terms.specs.Terms.{countTo}
 use Rattle.sip_sums.specs.Field.{Field, field}
 use Rattle.sip_tests.specs.Tests.{fieldAnswer, orderAnswer, testsAnswer}

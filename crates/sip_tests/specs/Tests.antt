@@ -12,8 +12,8 @@ use Rattle.domain.specs.declared.Answer.{Answer}
 use Rattle.domain.specs.declared.Answer.the-variants as answer
 use Rattle.rows.specs.Rows.{count, fewRows, evenRows, positionRows}
 use Rattle.cd_plate.specs.Plate.{leastDeterminant, determinantOf}
-use Rattle.cd_residuals.specs.Residuals.{plateOf, isWcs}
-use Rattle.cd_residuals.specs.declared.Wcs.{Wcs}
+use Rattle.wcs.specs.Wcs.{plateOf, isWcs}
+use Rattle.wcs.specs.declared.Wcs.{Wcs}
 use Rattle.sip_terms.specs.Terms.{termCount}
 use Rattle.sip_sums.specs.Field.{Field}
 

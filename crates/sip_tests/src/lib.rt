@@ -1,25 +1,17 @@
 // The tests of a SIP fit's input, in the order of this call.
 use cd_plate::Cd;
-use cd_residuals::Wcs;
 use domain::Answer;
 use domain::Refusal;
 use sip_terms::Sip;
+use wcs::Wcs;
 ghost use mathlib.Core.Path.{_≡_};
 ghost use Rattle.rows.specs.Rows.{rows};
-ghost use Rattle.cd_residuals.specs.Residuals.{isWcs};
+ghost use Rattle.wcs.specs.Wcs.{isWcs};
 ghost use Rattle.sip_sums.specs.Field.{field};
 ghost use Rattle.sip_tests.specs.Tests.{fieldAnswer, orderAnswer, testsAnswer};
 
 // The most rows.
 const MOST_ROWS: usize = 100;
-
-// Whether the reference pixel is a position, and each factor finite.
-fn is_taken(wcs: Wcs) -> bool
-    ensures { λ r. ⌜ r ≡ isWcs wcs ⌝ }
-{
-    let pixel = domain::is_position(wcs.crpix1) & domain::is_position(wcs.crpix2);
-    pixel & sip_sums::plate_of(wcs).is_finite()
-}
 
 // The tests of the lists and of the WCS, in their order.
 fn check_field(px: &[f64], py: &[f64], xi: &[f64], eta: &[f64], snr: &[f64], wcs: Wcs) -> Answer
@@ -32,7 +24,7 @@ fn check_field(px: &[f64], py: &[f64], xi: &[f64], eta: &[f64], snr: &[f64], wcs
         return Answer::Refused(Refusal::Lengths);
     }
     let numbers = rows::position_rows(px, py, xi, eta) & domain::all_snrs(snr);
-    if !(numbers & is_taken(wcs)) {
+    if !(numbers & wcs.is_taken()) {
         return Answer::Refused(Refusal::Value);
     }
     Answer::Done
@@ -52,7 +44,7 @@ fn check_order(count: usize, wcs: Wcs, order: u32, a: usize, b: usize) -> Answer
     if (a < n) | (b < n) {
         return Answer::Refused(Refusal::Room);
     }
-    if floats::magnitude(sip_sums::plate_of(wcs).determinant()) > Cd::LEAST_DETERMINANT {
+    if floats::magnitude(wcs.plate().determinant()) > Cd::LEAST_DETERMINANT {
         return Answer::Done;
     }
     Answer::Refused(Refusal::Degenerate)

@@ -1,6 +1,6 @@
 // The values of a SIP polynomial at all rows at once, term by term, with the powers of the rows in two tables.
-use cd_residuals::Wcs;
 use sip_terms::Term;
+use wcs::Wcs;
 ghost use mathlib.Core.Path.{_≡_};
 ghost use Prim.Native.Nat.{_+_, _*_, _≤_, _<_};
 ghost use lib.ListN.{length, replicate};

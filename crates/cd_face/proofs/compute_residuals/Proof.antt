@@ -27,8 +27,8 @@ returns-2 : tie.Need-returns-2
 returns-2 c =
     rw (ne-eqb _ _ (c .before .before .before .if1 .taken), ← c .before .before .few-rows .ensures, c .before .if2 .left) (c .number2 .ensures, (refl, (refl, (refl, refl))))
 
-wcs-in-requires : tie.Need-wcs-in-requires
-wcs-in-requires c κs = search needs
+of-requires : tie.Need-of-requires
+of-requires c κs = search needs
 
 compute-residuals-requires : tie.Need-compute-residuals-requires
 compute-residuals-requires c κs = search needs
@@ -56,8 +56,8 @@ returns-3 c =
     let tried = c .before .before .before .before .before .before .before .before .before .before in
     let made = tried .before .before .before .before in
     let a = c .before .before .before .before .before .before .before .before .before .before .before .before .before .before .before .before .before .before .before .before .before .before .before .before .args in
-    let e = refused (residualsDone (rows (a .px .now) (a .py .now) (a .xi .now) (a .eta .now)) (made .wcs-in .result) (length (a .x .now)) (length (a .y .now)) (length (a .all .now))) (foundOf (made .wcs-in .result) (length (a .px .now))) _ (sym (tried .compute-residuals .ensures .0) ∙ c .before .before .why .given .1) in
-    rw (eq-eqb _ _ (made .before .if1 .left), ← made .wcs-in .ensures, e) (
+    let e = refused (residualsDone (rows (a .px .now) (a .py .now) (a .xi .now) (a .eta .now)) (made .of .result) (length (a .x .now)) (length (a .y .now)) (length (a .all .now))) (foundOf (made .of .result) (length (a .px .now))) _ (sym (tried .compute-residuals .ensures .0) ∙ c .before .before .why .given .1) in
+    rw (eq-eqb _ _ (made .before .if1 .left), ← made .of .ensures, e) (
       c .number3 .ensures,
       (
         rw e at (tried .compute-residuals .ensures .1 .0),
@@ -79,8 +79,8 @@ returns-4 c =
     let tried = c .before .before .before .before .before .before .before .before .before in
     let made = tried .before .before .before .before in
     let a = c .before .before .before .before .before .before .before .before .before .before .before .before .before .before .before .before .before .before .before .before .before .before .before .args in
-    let e = found (residualsDone (rows (a .px .now) (a .py .now) (a .xi .now) (a .eta .now)) (made .wcs-in .result) (length (a .x .now)) (length (a .y .now)) (length (a .all .now))) (foundOf (made .wcs-in .result) (length (a .px .now))) _ (sym (tried .compute-residuals .ensures .0) ∙ c .before .count .given .1) in
-    rw (eq-eqb _ _ (made .before .if1 .left), ← made .wcs-in .ensures) (
+    let e = found (residualsDone (rows (a .px .now) (a .py .now) (a .xi .now) (a .eta .now)) (made .of .result) (length (a .x .now)) (length (a .y .now)) (length (a .all .now))) (foundOf (made .of .result) (length (a .px .now))) _ (sym (tried .compute-residuals .ensures .0) ∙ c .before .count .given .1) in
+    rw (eq-eqb _ _ (made .before .if1 .left), ← made .of .ensures) (
       sym (ap answerNumber (e .0)),
       (
         tried .compute-residuals .ensures .1 .0,
@@ -97,7 +97,7 @@ compute-residuals-spec =
     returns
     number-requires-2
     returns-2
-    wcs-in-requires
+    of-requires
     compute-residuals-requires
     enum-known-why
     number-requires-3

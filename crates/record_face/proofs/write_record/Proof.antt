@@ -24,8 +24,8 @@ returns-2 c = rw (c .before .before .if1 .taken, le-ltb _ _ (c .before .if2 .lef
 sip-in-requires : tie.Need-sip-in-requires
 sip-in-requires c κs = omega (arith, six-three (length (c .before .before .before .before .before .before .args .wcs .now)) (length (c .before .before .before .before .before .before .args .sums .now)) (c .if1 .left) .1)
 
-wcs-in-requires : tie.Need-wcs-in-requires
-wcs-in-requires c κs = omega (arith, six-three (length (c .before .before .before .before .before .before .before .args .wcs .now)) (length (c .before .before .before .before .before .before .before .args .sums .now)) (c .before .if1 .left) .0)
+of-requires : tie.Need-of-requires
+of-requires c κs = omega (arith, six-three (length (c .before .before .before .before .before .before .before .args .wcs .now)) (length (c .before .before .before .before .before .before .before .args .sums .now)) (c .before .if1 .left) .0)
 
 write-record-requires : tie.Need-write-record-requires
 write-record-requires c κs = search needs
@@ -43,15 +43,15 @@ same-length : tie.Need-same-length
 same-length c = search needs
 
 returns-3 : tie.Need-returns-3
-returns-3 c = let e = refused (recordDone (solution (c .before .before .before .before .before .before .before .before .before .sip-in .result) (c .before .before .before .before .before .before .before .before .wcs-in .result) (c .before .before .before .before .before .before .before .before .before .before .before .before .before .before .before .before .args .order) (c .before .before .before .before .before .before .before .before .before .before .before .before .before .before .before .before .args .a .now) (c .before .before .before .before .before .before .before .before .before .before .before .before .before .before .before .before .args .b .now)) (length (c .before .before .before .before .before .before .before .before .before .before .before .before .before .before .before .before .args .text .now))) (length (recordText (solution (c .before .before .before .before .before .before .before .before .before .sip-in .result) (c .before .before .before .before .before .before .before .before .wcs-in .result) (c .before .before .before .before .before .before .before .before .before .before .before .before .before .before .before .before .args .order) (c .before .before .before .before .before .before .before .before .before .before .before .before .before .before .before .before .args .a .now) (c .before .before .before .before .before .before .before .before .before .before .before .before .before .before .before .before .args .b .now)))) _ (sym (c .before .before .before .before .before .before .write-record .ensures .0) ∙ c .before .before .why .given .1) in
-    rw (c .before .before .before .before .before .before .before .before .before .before .if1 .left, ← c .before .before .before .before .before .before .before .before .before .sip-in .ensures, ← c .before .before .before .before .before .before .before .before .wcs-in .ensures, e) (c .number3 .ensures, (rw e at (c .before .before .before .before .before .before .write-record .ensures .1), refl))
+returns-3 c = let e = refused (recordDone (solution (c .before .before .before .before .before .before .before .before .before .sip-in .result) (c .before .before .before .before .before .before .before .before .of .result) (c .before .before .before .before .before .before .before .before .before .before .before .before .before .before .before .before .args .order) (c .before .before .before .before .before .before .before .before .before .before .before .before .before .before .before .before .args .a .now) (c .before .before .before .before .before .before .before .before .before .before .before .before .before .before .before .before .args .b .now)) (length (c .before .before .before .before .before .before .before .before .before .before .before .before .before .before .before .before .args .text .now))) (length (recordText (solution (c .before .before .before .before .before .before .before .before .before .sip-in .result) (c .before .before .before .before .before .before .before .before .of .result) (c .before .before .before .before .before .before .before .before .before .before .before .before .before .before .before .before .args .order) (c .before .before .before .before .before .before .before .before .before .before .before .before .before .before .before .before .args .a .now) (c .before .before .before .before .before .before .before .before .before .before .before .before .before .before .before .before .args .b .now)))) _ (sym (c .before .before .before .before .before .before .write-record .ensures .0) ∙ c .before .before .why .given .1) in
+    rw (c .before .before .before .before .before .before .before .before .before .before .if1 .left, ← c .before .before .before .before .before .before .before .before .before .sip-in .ensures, ← c .before .before .before .before .before .before .before .before .of .ensures, e) (c .number3 .ensures, (rw e at (c .before .before .before .before .before .before .write-record .ensures .1), refl))
 
 same-length-2 : tie.Need-same-length-2
 same-length-2 c = search needs
 
 returns-4 : tie.Need-returns-4
-returns-4 c = let e = done (recordDone (solution (c .before .before .before .before .before .before .before .before .sip-in .result) (c .before .before .before .before .before .before .before .wcs-in .result) (c .before .before .before .before .before .before .before .before .before .before .before .before .before .before .before .args .order) (c .before .before .before .before .before .before .before .before .before .before .before .before .before .before .before .args .a .now) (c .before .before .before .before .before .before .before .before .before .before .before .before .before .before .before .args .b .now)) (length (c .before .before .before .before .before .before .before .before .before .before .before .before .before .before .before .args .text .now))) (length (recordText (solution (c .before .before .before .before .before .before .before .before .sip-in .result) (c .before .before .before .before .before .before .before .wcs-in .result) (c .before .before .before .before .before .before .before .before .before .before .before .before .before .before .before .args .order) (c .before .before .before .before .before .before .before .before .before .before .before .before .before .before .before .args .a .now) (c .before .before .before .before .before .before .before .before .before .before .before .before .before .before .before .args .b .now)))) _ (sym (c .before .before .before .before .before .write-record .ensures .0) ∙ c .before .count .given .1) in
-    rw (c .before .before .before .before .before .before .before .before .before .if1 .left, ← c .before .before .before .before .before .before .before .before .sip-in .ensures, ← c .before .before .before .before .before .before .before .wcs-in .ensures, e .0) (refl, (rw (e .0) at (c .before .before .before .before .before .write-record .ensures .1), e .1))
+returns-4 c = let e = done (recordDone (solution (c .before .before .before .before .before .before .before .before .sip-in .result) (c .before .before .before .before .before .before .before .of .result) (c .before .before .before .before .before .before .before .before .before .before .before .before .before .before .before .args .order) (c .before .before .before .before .before .before .before .before .before .before .before .before .before .before .before .args .a .now) (c .before .before .before .before .before .before .before .before .before .before .before .before .before .before .before .args .b .now)) (length (c .before .before .before .before .before .before .before .before .before .before .before .before .before .before .before .args .text .now))) (length (recordText (solution (c .before .before .before .before .before .before .before .before .sip-in .result) (c .before .before .before .before .before .before .before .of .result) (c .before .before .before .before .before .before .before .before .before .before .before .before .before .before .before .args .order) (c .before .before .before .before .before .before .before .before .before .before .before .before .before .before .before .args .a .now) (c .before .before .before .before .before .before .before .before .before .before .before .before .before .before .before .args .b .now)))) _ (sym (c .before .before .before .before .before .write-record .ensures .0) ∙ c .before .count .given .1) in
+    rw (c .before .before .before .before .before .before .before .before .before .if1 .left, ← c .before .before .before .before .before .before .before .before .sip-in .ensures, ← c .before .before .before .before .before .before .before .of .ensures, e .0) (refl, (rw (e .0) at (c .before .before .before .before .before .write-record .ensures .1), e .1))
 
 pub write-record-spec : {M : Type 1} → statement M
 write-record-spec =
@@ -62,7 +62,7 @@ write-record-spec =
     number-requires-2
     returns-2
     sip-in-requires
-    wcs-in-requires
+    of-requires
     write-record-requires
     enum-known-why
     number-requires-3

@@ -24,8 +24,8 @@ number-requires-2 c κs = search needs
 returns-2 : tie.Need-returns-2
 returns-2 c = rw (ne-eqb _ _ (c .before .before .before .if1 .taken), ← c .before .before .few-rows .ensures, c .before .if2 .left) (c .number2 .ensures, (refl, (refl, (refl, refl))))
 
-wcs-in-requires : tie.Need-wcs-in-requires
-wcs-in-requires c κs = search needs
+of-requires : tie.Need-of-requires
+of-requires c κs = search needs
 
 fit-roomless-requires : tie.Need-fit-roomless-requires
 fit-roomless-requires c κs = search needs
@@ -38,8 +38,8 @@ same-length-2 c = search needs
 
 returns-3 : tie.Need-returns-3
 returns-3 c = let g = c .before .before .before .before .before .before .before .before .before .before .before .before .before .before .before .before .before .before .before .args in let p = c .before .before .before .before .fit-roomless in
-    let w = roomless (field (rows (g .px .now) (g .py .now) (g .xi .now) (g .eta .now)) (g .snr .now) (c .before .before .before .before .before .before .before .before .wcs-in .result)) (g .order) (length (g .b .now)) in
-    rw (eq-eqb _ _ (c .before .before .before .before .before .before .before .before .before .if1 .left), ← c .before .before .before .before .before .before .before .before .wcs-in .ensures, lt-ltb _ _ (c .before .before .before .before .before .before .before .if3 .taken), w .is) (rw (w .is) at (p .ensures .0), (p .ensures .1 .0, (p .ensures .1 .1, (refl, refl))))
+    let w = roomless (field (rows (g .px .now) (g .py .now) (g .xi .now) (g .eta .now)) (g .snr .now) (c .before .before .before .before .before .before .before .before .of .result)) (g .order) (length (g .b .now)) in
+    rw (eq-eqb _ _ (c .before .before .before .before .before .before .before .before .before .if1 .left), ← c .before .before .before .before .before .before .before .before .of .ensures, lt-ltb _ _ (c .before .before .before .before .before .before .before .if3 .taken), w .is) (rw (w .is) at (p .ensures .0), (p .ensures .1 .0, (p .ensures .1 .1, (refl, refl))))
 
 fit-sip-requires : tie.Need-fit-sip-requires
 fit-sip-requires c κs = search needs
@@ -58,7 +58,7 @@ same-length-5 c = search needs
 
 returns-4 : tie.Need-returns-4
 returns-4 c = let p = c .before .before .before .before .before .before .before .before .before .fit-sip in let q = c .before .before .put-fit in
-    rw (eq-eqb _ _ (c .before .before .before .before .before .before .before .before .before .before .before .before .before .before .if1 .left), ← c .before .before .before .before .before .before .before .before .before .before .before .before .before .wcs-in .ensures, le-ltb _ _ (c .before .before .before .before .before .before .before .before .before .before .before .before .if3 .left), ← p .ensures .0) (q .ensures .0, (p .ensures .1 .0, (p .ensures .1 .1, (q .ensures .1 .0, q .ensures .1 .1))))
+    rw (eq-eqb _ _ (c .before .before .before .before .before .before .before .before .before .before .before .before .before .before .if1 .left), ← c .before .before .before .before .before .before .before .before .before .before .before .before .before .of .ensures, le-ltb _ _ (c .before .before .before .before .before .before .before .before .before .before .before .before .if3 .left), ← p .ensures .0) (q .ensures .0, (p .ensures .1 .0, (p .ensures .1 .1, (q .ensures .1 .0, q .ensures .1 .1))))
 
 pub fit-sip-spec : {M : Type 1} → statement M
 fit-sip-spec =
@@ -69,7 +69,7 @@ fit-sip-spec =
     returns
     number-requires-2
     returns-2
-    wcs-in-requires
+    of-requires
     fit-roomless-requires
     same-length
     same-length-2

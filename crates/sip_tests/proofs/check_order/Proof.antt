@@ -21,8 +21,8 @@ returns-3 : tie.Need-returns-3
 unfolding orderAnswer
 returns-3 c = rw (← c .before .before .term-count .ensures, c .before .before .before .if1 .left, c .before .if2 .left, c .if3 .taken)
 
-plate-of-requires : tie.Need-plate-of-requires
-plate-of-requires c κs = search needs
+plate-requires : tie.Need-plate-requires
+plate-requires c κs = search needs
 
 determinant-requires : tie.Need-determinant-requires
 determinant-requires c κs = search needs
@@ -32,11 +32,11 @@ magnitude-requires c κs = search needs
 
 returns-4 : tie.Need-returns-4
 unfolding orderAnswer
-returns-4 c = rw (← c .before .before .before .before .before .before .term-count .ensures, c .before .before .before .before .before .before .before .if1 .left, c .before .before .before .before .before .if2 .left, c .before .before .before .before .if3 .left, ← c .before .before .before .plate-of .ensures, ← c .before .before .determinant .ensures, ← c .before .magnitude .ensures, c .if4 .taken)
+returns-4 c = rw (← c .before .before .before .before .before .before .term-count .ensures, c .before .before .before .before .before .before .before .if1 .left, c .before .before .before .before .before .if2 .left, c .before .before .before .before .if3 .left, ← c .before .before .before .plate .ensures, ← c .before .before .determinant .ensures, ← c .before .magnitude .ensures, c .if4 .taken)
 
 returns-5 : tie.Need-returns-5
 unfolding orderAnswer
-returns-5 c = rw (← c .before .before .before .before .before .before .term-count .ensures, c .before .before .before .before .before .before .before .if1 .left, c .before .before .before .before .before .if2 .left, c .before .before .before .before .if3 .left, ← c .before .before .before .plate-of .ensures, ← c .before .before .determinant .ensures, ← c .before .magnitude .ensures, c .if4 .left)
+returns-5 c = rw (← c .before .before .before .before .before .before .term-count .ensures, c .before .before .before .before .before .before .before .if1 .left, c .before .before .before .before .before .if2 .left, c .before .before .before .before .if3 .left, ← c .before .before .before .plate .ensures, ← c .before .before .determinant .ensures, ← c .before .magnitude .ensures, c .if4 .left)
 
 pub check-order-spec : {M : Type 1} → statement M
 check-order-spec =
@@ -46,7 +46,7 @@ check-order-spec =
     term-count-requires
     returns-2
     returns-3
-    plate-of-requires
+    plate-requires
     determinant-requires
     magnitude-requires
     returns-4

@@ -1,8 +1,8 @@
--- `cd_residuals::Wcs::is_taken` meets its contract: the pixel is tested, then the factors. Assumes nothing.
-use Rattle.cd_residuals.specs.Residuals.{isWcs}
+-- `wcs::Wcs::is_taken` meets its contract: the pixel is tested, then the factors. Assumes nothing.
+use Rattle.wcs.specs.Wcs.{isWcs}
 use borrow.Author.Needs.{needs}
-use Rattle.cd_residuals.proofs.Wcs.is_taken.Statement.{statement}
-use Rattle.cd_residuals.proofs.Wcs.is_taken.Tie as tie
+use Rattle.wcs.proofs.Wcs.is_taken.Statement.{statement}
+use Rattle.wcs.proofs.Wcs.is_taken.Tie as tie
 
 is-position-requires : tie.Need-is-position-requires
 is-position-requires c κs = search needs

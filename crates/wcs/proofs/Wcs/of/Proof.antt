@@ -1,9 +1,9 @@
--- `cd_face::wcs_in` meets its contract. Assumes nothing.
+-- `wcs::Wcs::of` meets its contract. Assumes nothing.
 use mathlib.Core.Path.{refl}
-use Rattle.cd_face.specs.Face.{wcsIn}
+use Rattle.wcs.specs.Wcs.{wcsIn}
 use borrow.Author.Needs.{needs}
-use Rattle.cd_face.proofs.wcs_in.Statement.{statement}
-use Rattle.cd_face.proofs.wcs_in.Tie as tie
+use Rattle.wcs.proofs.Wcs.of.Statement.{statement}
+use Rattle.wcs.proofs.Wcs.of.Tie as tie
 
 shared-slice-read-t3 : tie.Need-shared-slice-read-t3
 shared-slice-read-t3 c = search needs
@@ -27,8 +27,8 @@ returns : tie.Need-returns
 unfolding wcsIn
 returns c = refl
 
-pub wcs-in-spec : {M : Type 1} → statement M
-wcs-in-spec =
+pub of-spec : {M : Type 1} → statement M
+of-spec =
     tie.close
     (tie.spec
     shared-slice-read-t3
