@@ -1,7 +1,8 @@
 -- The affine of three rows, and the rows that agree with one. Each operation is rounded once, in the Rust's order. Definitions only.
 use mathlib.Core.Bool.{Bool, cond}
 use Prim.Native.Nat.{ℕ, zero, suc, _+_}
-use lib.Ieee.{Float, binary64, ofBits, add, sub, mul, div, neg, lt}
+use lib.Ieee.{Float, binary64, ofBits, neg, lt}
+use Rattle.floats.specs.Rounded.{_⊕_, _⊖_, _⊗_, _⊘_}
 use Rattle.floats.specs.Magnitude.{magnitudeOf}
 use Rattle.domain.specs.Answers.{numberOf}
 use Rattle.domain.specs.declared.Refusal.the-variants as refusal
@@ -11,23 +12,6 @@ use Rattle.affine.specs.declared.Affine.{Affine}
 use Rattle.affine.specs.declared.AffineFit.{AffineFit}
 use Rattle.affine.specs.declared.AffineFit.the-variants as fit
 use Rattle.affine.specs.declared.Inverse.{Inverse}
-
--- The four operations, each rounded once; they bind, and go from left to right, as in the Rust.
-infixl 20 _⊕_
-infixl 20 _⊖_
-infixl 30 _⊗_
-infixl 30 _⊘_
-abbrev _⊕_ : Float → Float → Float
-x ⊕ y = add binary64 x y
-
-abbrev _⊖_ : Float → Float → Float
-x ⊖ y = sub binary64 x y
-
-abbrev _⊗_ : Float → Float → Float
-x ⊗ y = mul binary64 x y
-
-abbrev _⊘_ : Float → Float → Float
-x ⊘ y = div binary64 x y
 
 -- 1e-20, the least determinant of three rows that are fitted.
 abbrev pub leastDeterminant : Float

@@ -1,28 +1,12 @@
 -- The six numbers of a CD plate, their inverse, and the error of a row. Each operation is rounded once, in the Rust's order. Definitions only.
 use mathlib.Core.Bool.{Bool, _&&_}
-use lib.Ieee.{Float, binary64, ofBits, add, sub, mul, div, neg}
+use lib.Ieee.{Float, binary64, ofBits, neg}
+use Rattle.floats.specs.Rounded.{_⊕_, _⊖_, _⊗_, _⊘_}
 use Rattle.floats.specs.Root.{rootOf}
 use Rattle.domain.specs.Domain.{isFinite}
 use Rattle.rows.specs.declared.Row.{Row}
 use Rattle.cd_plate.specs.declared.Cd.{Cd}
 use Rattle.cd_plate.specs.declared.Inverse.{Inverse}
-
--- The four operations, each rounded once; they bind, and go from left to right, as in the Rust.
-infixl 20 _⊕_
-infixl 20 _⊖_
-infixl 30 _⊗_
-infixl 30 _⊘_
-abbrev pub _⊕_ : Float → Float → Float
-x ⊕ y = add binary64 x y
-
-abbrev pub _⊖_ : Float → Float → Float
-x ⊖ y = sub binary64 x y
-
-abbrev pub _⊗_ : Float → Float → Float
-x ⊗ y = mul binary64 x y
-
-abbrev pub _⊘_ : Float → Float → Float
-x ⊘ y = div binary64 x y
 
 -- 0.0
 abbrev pub nothing : Float

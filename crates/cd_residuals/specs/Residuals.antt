@@ -15,7 +15,8 @@ use Rattle.rows.specs.Rows.{Rows, rowAt, count, fewRows, evenRows, positionRows
 use Rattle.rows.specs.declared.Row.{Row}
 use Rattle.cd_plate.specs.declared.Cd.{Cd}
 use Rattle.cd_plate.specs.declared.Inverse.{Inverse}
-use Rattle.cd_plate.specs.Plate.{_⊕_, _⊖_, _⊗_, nothing, leastDeterminant, determinantOf, isCd, inverseOf}
+use Rattle.floats.specs.Rounded.{_⊕_, _⊖_, _⊗_}
+use Rattle.cd_plate.specs.Plate.{nothing, leastDeterminant, determinantOf, isCd, inverseOf}
 use Rattle.cd_plate.specs.Filled.{filled}
 use Rattle.wcs.specs.declared.Wcs.{Wcs}
 use Rattle.wcs.specs.Wcs.{plateOf, isWcs}

@@ -9,7 +9,7 @@ use lib.Dec.{eqb}
 use lib.ListN.{length, getD, set, drop, drop-of-length-le}
 use lib.Seq.{drop-cons, getD-at}
 use lib.Ieee.{Float, nan, lt}
-use Rattle.cd_plate.specs.Plate.{_⊗_}
+use Rattle.floats.specs.Rounded.{_⊗_}
 use Rattle.cd_plate.specs.Filled.{filled}
 use Rattle.cd_plate.proofs.Filling.{Front, filled-length, again}
 use Rattle.cd_round.specs.declared.Clip.{Clip}

@@ -5,7 +5,7 @@ ghost use Prim.Native.Nat.{_≤_};
 ghost use lib.ListN.{length};
 ghost use lib.Ieee.{lt};
 ghost use Rattle.domain.specs.Answers.{written};
-ghost use Rattle.cd_plate.specs.Plate.{_⊕_, _⊗_};
+ghost use Rattle.floats.specs.Rounded.{_⊕_, _⊗_};
 ghost use Rattle.cd_round.specs.Round.{rootsOf, squaresTo, clipOf, anyRejected, maskLeft};
 
 // What a round rejects by: a row's error times the root of its weight may not be above the limit.

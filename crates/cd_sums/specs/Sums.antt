@@ -6,7 +6,8 @@ use lib.ListN.{getD}
 use lib.Ieee.{Float, nan, binary64, ofBits}
 use Rattle.rows.specs.Rows.{Rows, rowAt}
 use Rattle.rows.specs.declared.Row.{Row}
-use Rattle.cd_plate.specs.Plate.{_⊕_, _⊗_, nothing}
+use Rattle.floats.specs.Rounded.{_⊕_, _⊗_}
+use Rattle.cd_plate.specs.Plate.{nothing}
 use Rattle.cd_plate.specs.Masked.{isOn}
 
 -- u and v are a row's pixel, and b is its number on the axis

@@ -8,7 +8,8 @@ use lib.Ieee.{Float, nan, binary64, ofBits, ofInt, lt}
 use Rattle.floats.specs.Root.{rootOf}
 use Rattle.rows.specs.Rows.{Rows, count}
 use Rattle.cd_mask.specs.Marks.{byteOf, ones}
-use Rattle.cd_plate.specs.Plate.{_⊕_, _⊖_, _⊗_, _⊘_, nothing}
+use Rattle.floats.specs.Rounded.{_⊕_, _⊖_, _⊗_, _⊘_}
+use Rattle.cd_plate.specs.Plate.{nothing}
 use Rattle.cd_plate.specs.Masked.{isOn}
 use Rattle.cd_plate.specs.Filled.{filled}
 use Rattle.wcs.specs.declared.Wcs.{Wcs}

@@ -9,7 +9,8 @@ use lib.Ieee.{Float, nan, binary64, ofInt, lt}
 use Rattle.floats.specs.Root.{rootOf}
 use Rattle.rows.specs.Rows.{Rows, count}
 use Rattle.cd_mask.specs.Marks.{ones}
-use Rattle.cd_plate.specs.Plate.{_⊕_, _⊗_, _⊘_, nothing}
+use Rattle.floats.specs.Rounded.{_⊕_, _⊗_, _⊘_}
+use Rattle.cd_plate.specs.Plate.{nothing}
 use Rattle.cd_plate.specs.Masked.{isOn}
 use Rattle.wcs.specs.declared.Wcs.{Wcs}
 use Rattle.sip_terms.specs.declared.Sip.{Sip}

@@ -10,7 +10,8 @@ use lib.ListN.{length, getD, take, drop, replicate, getD-replicate, length-drop}
 use lib.Seq.{getD-take, getD-drop, length-take-le}
 use lib.Ieee.{Float, nan}
 use borrow.Author.Tests.{eqb-true, lt-ltb, le-ltb, le-leb}
-use Rattle.cd_plate.specs.Plate.{_⊗_, nothing}
+use Rattle.floats.specs.Rounded.{_⊗_}
+use Rattle.cd_plate.specs.Plate.{nothing}
 use Rattle.cd_plate.specs.Masked.{isOn}
 use Rattle.cd_plate.specs.Filled.{filled}
 use Rattle.cd_plate.proofs.Filling.{filled-length}

@@ -5,7 +5,8 @@ use lib.ListN.{getD}
 use lib.Ieee.{Float, nan, neg}
 use Rattle.rows.specs.Rows.{Rows, rowAt}
 use Rattle.rows.specs.declared.Row.{Row}
-use Rattle.cd_plate.specs.Plate.{_⊕_, _⊖_, _⊗_, _⊘_, determinantOf}
+use Rattle.floats.specs.Rounded.{_⊕_, _⊖_, _⊗_, _⊘_}
+use Rattle.cd_plate.specs.Plate.{determinantOf}
 use Rattle.wcs.specs.Wcs.{plateOf}
 use Rattle.wcs.specs.declared.Wcs.{Wcs}
 use Rattle.sip_sums.specs.declared.Offset.{Offset}

@@ -5,7 +5,8 @@ use Prim.Native.Nat.{ℕ, zero, suc}
 use lib.Dec.{ltb}
 use lib.Ieee.{Float}
 use Rattle.rows.specs.Rows.{count}
-use Rattle.cd_plate.specs.Plate.{_⊕_, _⊗_, nothing}
+use Rattle.floats.specs.Rounded.{_⊕_, _⊗_}
+use Rattle.cd_plate.specs.Plate.{nothing}
 use Rattle.cd_plate.specs.Masked.{isOn}
 use Rattle.elimination.specs.Elimination.{Matrix}
 use Rattle.sip_terms.specs.Terms.{basisOf}

@@ -4,7 +4,7 @@ use Prim.Native.Nat.{ℕ}
 use lib.ListN.{getD}
 use lib.Ieee.{Float, nan}
 use Rattle.floats.specs.Power.{powerOf}
-use Rattle.cd_plate.specs.Plate.{_⊗_}
+use Rattle.floats.specs.Rounded.{_⊗_}
 use Rattle.cd_plate.specs.Filled.{filled}
 use Rattle.sip_terms.specs.Terms.{termAt}
 

@@ -7,7 +7,8 @@ use lib.ListN.{length, getD}
 use lib.Ieee.{Float, nan, binary64, ofBits, lt}
 use Rattle.floats.specs.Magnitude.{magnitudeOf}
 use Rattle.floats.specs.Power.{powerOf}
-use Rattle.cd_plate.specs.Plate.{_⊕_, _⊗_, nothing}
+use Rattle.floats.specs.Rounded.{_⊕_, _⊗_}
+use Rattle.cd_plate.specs.Plate.{nothing}
 use Rattle.sip_terms.specs.declared.Term.{Term}
 
 -- the first term: u^2

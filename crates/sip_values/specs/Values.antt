@@ -8,7 +8,8 @@ use lib.ListN.{length, getD}
 use lib.Ieee.{Float, nan}
 use Rattle.floats.specs.Power.{powerOf}
 use Rattle.rows.specs.Rows.{Rows, count}
-use Rattle.cd_plate.specs.Plate.{_⊕_, _⊗_, nothing}
+use Rattle.floats.specs.Rounded.{_⊕_, _⊗_}
+use Rattle.cd_plate.specs.Plate.{nothing}
 use Rattle.wcs.specs.declared.Wcs.{Wcs}
 use Rattle.elimination.specs.Elimination.{Matrix}
 use Rattle.elimination.specs.Holds.{Holds}
