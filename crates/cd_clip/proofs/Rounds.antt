@@ -24,7 +24,7 @@ use Rattle.cd_fit.specs.declared.CdFit.the-variants as fit
 use Rattle.cd_round.specs.declared.Clip.{Clip}
 use Rattle.cd_round.specs.Round.{rootAt, rootsOf, squaresTo, clipOf, anyRejected, maskLeft}
 use Rattle.cd_clip.specs.declared.Clipped.the-variants as clipped
-use Rattle.cd_clip.specs.Clip.{refitOf, Round, Last, Refitted, roundOf, ended, after, clipFrom}
+use Rattle.cd_clip.specs.Clip.{refitOf, Last, Refitted, roundOf, ended, after, clipFrom}
 
 -- what the parts of a round gave: the errors, how many rows are on, what it rejects by, whether it rejects any, and the mask that is left
 pub record Parts (r : Rows) (ws : List Float) (mask : List ℕ) (cd : Cd) (errors roots : List Float) (on : ℕ) (sum : Float) (clip : Clip) (any : Bool) (left : List ℕ) : Type 0 where

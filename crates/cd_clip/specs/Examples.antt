@@ -1,6 +1,6 @@
 -- Worked examples, each by computation.
 use mathlib.Core.Path.{_≡_, refl}
-use mathlib.Core.List.{List, [], _∷_}
+use mathlib.Core.List.{[], _∷_}
 use lib.ListN.{replicate}
 use lib.Ieee.{Float, nan, binary64, ofBits, ofInt, add, sub, mul, div, neg, lt, le, eq}
 use Rattle.floats.specs.Root.{rootOf}

@@ -2,7 +2,7 @@
 use mathlib.Core.Path.{_≡_, refl}
 use mathlib.Core.List.{[], _∷_}
 use lib.ListN.{replicate}
-use lib.Ieee.{Float, nan, binary64, ofBits, add, sub, mul, div, neg, lt, le, eq}
+use lib.Ieee.{nan, ofBits, add, sub, mul, div, neg, lt, le, eq}
 use Rattle.floats.specs.Magnitude.{magnitudeOf}
 use Rattle.domain.specs.Domain.{every}
 use Rattle.domain.specs.declared.Refusal.the-variants.{Count, Lengths, Value, Degenerate}

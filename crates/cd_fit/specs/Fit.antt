@@ -12,7 +12,7 @@ use Rattle.domain.specs.declared.Refusal.the-variants as refusal
 use Rattle.domain.specs.declared.Answer.{Answer}
 use Rattle.domain.specs.declared.Answer.the-variants as answer
 use Rattle.rows.specs.Rows.{Rows, count}
-use Rattle.elimination.specs.Elimination.{Matrix, cells, Solved, Unknowns, Singular, solution}
+use Rattle.elimination.specs.Elimination.{cells, Solved, Unknowns, Singular, solution}
 use Rattle.cd_plate.specs.declared.Cd.{Cd}
 use Rattle.cd_plate.specs.Plate.{leastDeterminant, determinantOf}
 use Rattle.cd_plate.specs.Masked.{fewMasked, evenMasked, goodMasked}

@@ -1,22 +1,20 @@
 -- The residuals of rows in degrees under a WCS. Each operation is rounded once, in the Rust's order. Definitions only.
-use mathlib.Core.Bool.{Bool, cond, not, _&&_, _||_}
+use mathlib.Core.Bool.{cond, not, _&&_, _||_}
 use mathlib.Core.List.{List}
 use Prim.Native.Nat.{ℕ}
 use lib.Dec.{ltb}
 use lib.Ieee.{Float, lt}
 use Rattle.floats.specs.Magnitude.{magnitudeOf}
 use Rattle.floats.specs.Root.{rootOf}
-use Rattle.domain.specs.Domain.{isPosition}
 use Rattle.domain.specs.Answers.{numberOf, first, roomFor}
 use Rattle.domain.specs.declared.Refusal.the-variants as refusal
 use Rattle.domain.specs.declared.Answer.{Answer}
 use Rattle.domain.specs.declared.Answer.the-variants as answer
 use Rattle.rows.specs.Rows.{Rows, rowAt, count, fewRows, evenRows, positionRows}
 use Rattle.rows.specs.declared.Row.{Row}
-use Rattle.cd_plate.specs.declared.Cd.{Cd}
 use Rattle.cd_plate.specs.declared.Inverse.{Inverse}
 use Rattle.floats.specs.Rounded.{_⊕_, _⊖_, _⊗_}
-use Rattle.cd_plate.specs.Plate.{nothing, leastDeterminant, determinantOf, isCd, inverseOf}
+use Rattle.cd_plate.specs.Plate.{leastDeterminant, determinantOf, inverseOf}
 use Rattle.cd_plate.specs.Filled.{filled}
 use Rattle.wcs.specs.declared.Wcs.{Wcs}
 use Rattle.wcs.specs.Wcs.{plateOf, isWcs}

@@ -10,7 +10,6 @@ ghost use Prim.Native.Nat.{_≤_};
 ghost use lib.ListN.{length};
 ghost use Rattle.domain.specs.Answers.{written, lentAfter};
 ghost use Rattle.rows.specs.Rows.{rows};
-ghost use Rattle.cd_plate.specs.Plate.{inverseOf};
 ghost use Rattle.cd_plate.specs.Filled.{filled};
 ghost use Rattle.cd_residuals.specs.Residuals.{inputAnswer, foundOf, residualOf, xAt, yAt, pxAt, roomAnswer};
 ghost use Rattle.cd_residuals.specs.Residuals.{residualsDone, residualsAnswer, residualsNumber, foundAfter, residualsX, residualsY, residualsPx};

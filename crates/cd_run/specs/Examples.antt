@@ -17,7 +17,6 @@ use Rattle.cd_pool.specs.Pool.{greatest, leastOf, placesFrom, poolOf}
 use Rattle.cd_mask.specs.Marks.{marks, ones}
 use Rattle.cd_sums.specs.Sums.{unit, sumsTo}
 use Rattle.cd_fit.specs.Fit.{plateFit, fitOf}
-use Rattle.cd_near.specs.Near.{nearMarks}
 use Rattle.cd_trial.specs.Trial.{tripleMarks, fitMarked, fitPlaces, fitAgain}
 use Rattle.cd_run.specs.declared.CdRun.the-variants.{Fitted, Untested, Refused}
 use Rattle.cd_run.specs.Run.{testsOf, heldEnd, poolEnd, runEnd, runAnswer, maskAfter}

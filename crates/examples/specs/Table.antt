@@ -2,7 +2,7 @@
 use mathlib.Core.Path.{_≡_, refl}
 use mathlib.Core.List.{List, [], _∷_}
 use Prim.Native.Nat.{ℕ}
-use lib.IntN.{ℤ, pos}
+use lib.IntN.{pos}
 use lib.Ieee.{Float, binary64, ofBits, ofInt, toSigned, neg, mul, add, sub, div, lt, eq, le}
 use Rattle.floats.specs.Root.{rootOf}
 use Rattle.floats.specs.Magnitude.{magnitudeOf}
@@ -13,7 +13,7 @@ use Rattle.cd_plate.specs.declared.Cd.{Cd}
 use Rattle.cd_plate.specs.Plate.{determinantOf, isCd, inverseOf, squareOf}
 use Rattle.cd_plate.specs.Filled.{filled}
 use Rattle.cd_mask.specs.Marks.{ones}
-use Rattle.cd_sums.specs.Sums.{Nine, etaOf, sumsTo, weightedSums}
+use Rattle.cd_sums.specs.Sums.{etaOf, sumsTo, weightedSums}
 use Rattle.cd_fit.specs.Fit.{weighedAnswer}
 use Rattle.cd_round.specs.Round.{squaresTo, clipOf, anyRejected}
 use Rattle.cd_clip.specs.declared.Clipped.the-variants as clipped

@@ -3,7 +3,6 @@ use mathlib.Core.Path.{_≡_, refl}
 use mathlib.Core.Bool.{Bool, true, false, cond}
 use Prim.Native.Nat.{ℕ, zero, suc, _+_, _-_, _*_, _/_, _%_, _^_, compare}
 use lib.Dec.{ltb}
-use lib.IntN.{ℤ}
 use lib.Ieee.{Float, nan, inf, fin, binary64, up, down, size, nearest, odd, units, round, sum, add, mul, lt}
 use Rattle.floats.proofs.Tests.{zero-float, above-not-below, inf-not-below, nan-not-below}
 use Rattle.floats.proofs.Patterns.{sign}

@@ -1,7 +1,7 @@
 -- Laws of the quads that are counted and written. Assumes nothing.
 use Prim.Native.Nat.{ℕ, suc, _+_, _/_, _≤_, _<_}
 use mathlib.Core.Path.{_≡_, refl, _∙_, ap}
-use mathlib.Core.Bool.{Bool, true, false, cond, _||_}
+use mathlib.Core.Bool.{_||_}
 use mathlib.Core.List.{List, [], _∷_, _++_}
 use native.Mathlib.Omega.{arith}
 use native.Mathlib.Nat.{add-zero, add-suc, suc-add, zero-add}
@@ -10,9 +10,7 @@ use lib.Dec.{ltb}
 use lib.ListN.{set, length, getD, take, drop, length-append, length-take, drop-of-length-le}
 use lib.Seq.{sets-eq, sets, length-sets}
 use lib.Ieee.{Float}
-use Rattle.domain.specs.declared.Refusal.{Refusal}
 use Rattle.domain.specs.declared.Refusal.the-variants as refusal
-use Rattle.domain.specs.declared.Answer.{Answer}
 use Rattle.domain.specs.declared.Answer.the-variants as answer
 use Rattle.domain.specs.Answers.{first}
 use Rattle.domain.proofs.Passed.{passed, both, neither}

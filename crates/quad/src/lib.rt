@@ -5,7 +5,7 @@ use quad_spine::Four;
 use quad_spine::Quad;
 use quad_spine::Scaled;
 ghost use mathlib.Core.Path.{_≡_};
-ghost use Prim.Native.Nat.{ℕ, _+_, _<_, _≤_};
+ghost use Prim.Native.Nat.{_+_, _<_, _≤_};
 ghost use lib.ListN.{length, take};
 ghost use lib.Seq.{sets};
 ghost use Rattle.quad.specs.Quads.{fourOf, triedOf, quadOf, placesIn, hashIn, allPlaces, allHashes, inputAnswer, quadPlaces};

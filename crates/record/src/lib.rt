@@ -10,7 +10,6 @@ ghost use Prim.Native.Nat.{_≤_};
 ghost use lib.ListN.{length};
 ghost use Rattle.domain.specs.Answers.{roomFor, lentAfter};
 ghost use Rattle.text.specs.Put.{Put, Room};
-ghost use Rattle.record_lines.specs.Lines.{recordOf, textOf};
 ghost use Rattle.record.specs.Record.{solution, isOrder, lengthsFit, inputAnswer, lineSize, termsSize, recordSize, recordText, writtenAfter, recordDone, recordAnswer, recordedNumber};
 
 // The most rows that a fit uses.

@@ -1,5 +1,4 @@
 // The rows of a SIP fit, and the sums of its normal equations over the rows that are on, for both axes in one pass.
-use cd_plate::Cd;
 use rows::Row;
 use wcs::Wcs;
 ghost use mathlib.Core.Path.{_≡_};
@@ -8,7 +7,6 @@ ghost use lib.ListN.{length, replicate};
 ghost use Rattle.rows.specs.Rows.{rows};
 ghost use Rattle.cd_plate.specs.Plate.{nothing};
 ghost use Rattle.cd_plate.specs.Filled.{filled};
-ghost use Rattle.wcs.specs.Wcs.{plateOf};
 ghost use Rattle.elimination.specs.Elimination.{cells};
 ghost use Rattle.elimination.specs.Holds.{Holds};
 ghost use Rattle.sip_sums.specs.Field.{offsetOf, offsetAt};

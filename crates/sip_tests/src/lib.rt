@@ -6,7 +6,6 @@ use sip_terms::Sip;
 use wcs::Wcs;
 ghost use mathlib.Core.Path.{_≡_};
 ghost use Rattle.rows.specs.Rows.{rows};
-ghost use Rattle.wcs.specs.Wcs.{isWcs};
 ghost use Rattle.sip_sums.specs.Field.{field};
 ghost use Rattle.sip_tests.specs.Tests.{fieldAnswer, orderAnswer, testsAnswer};
 

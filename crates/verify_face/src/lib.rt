@@ -8,7 +8,7 @@ use verify_affine::Inliers;
 ghost use mathlib.Core.Path.{_≡_};
 ghost use Prim.Native.Nat.{_≤_};
 ghost use lib.ListN.{length};
-ghost use Rattle.domain.specs.Answers.{answerNumber, roomFor, written, lentAfter, numberAfter};
+ghost use Rattle.domain.specs.Answers.{answerNumber, roomFor, lentAfter, numberAfter};
 ghost use Rattle.rows.specs.Rows.{rows};
 ghost use Rattle.verify_face.specs.Face.{affineNumbers, affineIn, affineFace, affineWritten, inliersFace, inliersCount};
 ghost use Rattle.verify_face.specs.Face.{scoreFace, scoreCount};

@@ -1,7 +1,5 @@
 -- `cd_face::solve_normal_equations` meets its contract, which is that of the function it calls. Assumes nothing.
-use mathlib.Core.Path.{ap, _∙_}
 use borrow.Author.Needs.{needs}
-use Rattle.domain.specs.Answers.{answerNumber}
 use Rattle.cd_face.proofs.solve_normal_equations.Statement.{statement}
 use Rattle.cd_face.proofs.solve_normal_equations.Tie as tie
 

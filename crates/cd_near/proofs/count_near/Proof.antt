@@ -1,10 +1,10 @@
 -- `cd_near::count_near` meets its contract: after i rows the count is that of the near ones among the first i. Assumes nothing.
 use Rattle.cd_mask.specs.Marks.{byteOf, marks, ones}
-use Rattle.rows.specs.Rows.{Rows, rows, rowAt}
+use Rattle.rows.specs.Rows.{rows}
 use Rattle.cd_plate.specs.Plate.{inverseOf, errorOf}
 use Rattle.cd_near.proofs.Squared.{nearBy}
-use mathlib.Core.Path.{_≡_, _∙_, ap, refl, sym}
-use Prim.Native.Nat.{ℕ, _+_, _-_, _≤_}
+use mathlib.Core.Path.{_≡_, _∙_, ap}
+use Prim.Native.Nat.{ℕ, _-_, _≤_}
 use lib.ListN.{length}
 use mathlib.Core.Bool.{Bool}
 use lib.Ieee.{le}

@@ -2,9 +2,9 @@
 use Rattle.cd_near.specs.Reach.{infinity, isWithin}
 use Rattle.floats.proofs.Ranks.{next-pattern}
 use Rattle.floats.proofs.Patterns.{no-nan-up-to}
-use mathlib.Core.Path.{_≡_, _∙_, sym, ap}
+use mathlib.Core.Path.{_≡_, _∙_, sym}
 use mathlib.Core.Bool.{true, false}
-use Prim.Native.Nat.{ℕ, _+_, _-_, _≤_, _<_}
+use Prim.Native.Nat.{_+_, _-_, _≤_, _<_}
 use native.Mathlib.Omega.{arith}
 use borrow.Author.Needs.{needs}
 use Rattle.cd_near.proofs.last_within.Statement.{statement}

@@ -3,7 +3,6 @@ use lib.Dec.{T}
 use lib.Ieee.{Float, nan, inf, fin, isNan, lt}
 use mathlib.Core.Path.{_≡_, refl}
 use mathlib.Core.Bool.{true, not}
-use native.Mathlib.Omega.{arith}
 use Rattle.floats.proofs.Tests.{clash}
 use borrow.Author.Needs.{needs}
 use Rattle.cd_near.proofs.start_bits.Statement.{statement}

@@ -1,5 +1,5 @@
 -- `verify_face::count_affine_inliers` meets its contract: six numbers make an affine, and then the inner call decides. Assumes nothing.
-use mathlib.Core.Path.{refl, ap}
+use mathlib.Core.Path.{refl}
 use borrow.Author.Tests.{eq-eqb, ne-eqb}
 use borrow.Author.Needs.{needs}
 use Rattle.verify_face.proofs.count_affine_inliers.Statement.{statement}

@@ -1,6 +1,6 @@
 -- `cd_near::Reach::is_near` meets its contract: the squared error tells. Assumes nothing.
 use Rattle.cd_near.proofs.Squared.{by-square}
-use mathlib.Core.Path.{_∙_, sym}
+use mathlib.Core.Path.{sym}
 use borrow.Author.Needs.{needs}
 use Rattle.cd_near.proofs.Reach.is_near.Statement.{statement}
 use Rattle.cd_near.proofs.Reach.is_near.Tie as tie
