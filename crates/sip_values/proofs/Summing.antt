@@ -1,6 +1,6 @@
 -- The sums of all rows, one term more. Assumes nothing.
 use mathlib.Core.Path.{_≡_, refl, sym, _∙_}
-use mathlib.Core.Bool.{Bool, true, false, cond}
+use mathlib.Core.Bool.{true, false}
 use mathlib.Core.List.{List}
 use Prim.Native.Nat.{ℕ, zero, suc, _+_, _*_, _<_, _≤_}
 use native.Mathlib.Numerals.{add-one}
@@ -13,7 +13,6 @@ use Rattle.cd_plate.specs.Plate.{nothing}
 use Rattle.cd_plate.specs.Filled.{filled}
 use Rattle.cd_plate.proofs.Filling.{filled-length}
 use Rattle.elimination.specs.Elimination.{Matrix, cells}
-use Rattle.elimination.specs.Holds.{Holds}
 use Rattle.sip_terms.specs.declared.Term.{Term}
 use Rattle.sip_terms.specs.Terms.{termAt, isKept, valueTo}
 use Rattle.sip_terms.proofs.Told.{filled-at, filled-same}
