@@ -4,6 +4,7 @@ use Rattle.cd_plate.specs.Plate.{nothing}
 use Rattle.rows.specs.Rows.{rows}
 use lib.ListN.{length, length-replicate}
 use mathlib.Core.Path.{_≡_, _∙_}
+use native.Mathlib.Omega.{arith}
 use borrow.Author.Needs.{needs}
 use Rattle.sip_clip.proofs.put_errors_in.Statement.{statement}
 use Rattle.sip_clip.proofs.put_errors_in.Tie as tie
@@ -11,12 +12,12 @@ use Rattle.sip_clip.proofs.put_errors_in.Tie as tie
 put-values-requires : tie.Need-put-values-requires
 put-values-requires c κs = let s = c .before .before .before .before .before .before .before .before .before .before .before .before .before in let t = s .pre .1 .1 .1 .1 .1 .1 .0 in let e = s .pre .1 .1 .1 .1 .1 .1 .1 .0 in
     let l : length (s .args .x .now) ≡ length (s .args .px .now) = rw e (length-replicate (length (s .args .px .now)) nothing) in
-    let b = s .pre .1 .1 .1 .1 .1 .0 in ((b .0, rw l (b .2)), (rw l (t .long-u), (rw l (t .long-v), rw l e)))
+    let b = s .pre .1 .1 .1 .1 .1 .0 in ((omega (arith, b .0, b .1), rw l (b .2)), (rw l (t .long-u), (rw l (t .long-v), rw l e)))
 
 put-values-requires-2 : tie.Need-put-values-requires-2
 put-values-requires-2 c κs = let s = c .before .before .before .before .before .before .before .before .before .before .before .before .before .before .before .before .before in let t = s .pre .1 .1 .1 .1 .1 .1 .0 in let e = s .pre .1 .1 .1 .1 .1 .1 .1 .1 in
     let l : length (s .args .y .now) ≡ length (s .args .px .now) = rw e (length-replicate (length (s .args .px .now)) nothing) in
-    let b = s .pre .1 .1 .1 .1 .1 .0 in ((b .1, rw l (b .2)), (rw l (t .long-u), (rw l (t .long-v), rw l e)))
+    let b = s .pre .1 .1 .1 .1 .1 .0 in ((omega (arith, b .0, b .1), rw l (b .2)), (rw l (t .long-u), (rw l (t .long-v), rw l e)))
 
 put-lengths-requires : tie.Need-put-lengths-requires
 put-lengths-requires c κs = let s = c .before .before .before .before .before .before .before .before .before .before .before .before .before .before .before .before .before .before .before .before .before .before .before in
