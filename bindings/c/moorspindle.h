@@ -62,7 +62,8 @@ double moorspindle_power(double u, uint32_t p);
 /* ---- quads */
 
 /* The first pair of greatest squared distance among the stars at four places: `spine` gets its
-   two places, and then the other two. Needs 4. Refuses with 1 2 3 4 7. */
+   two places, by smaller x, then y, then place, and then the other two in their order. Needs 4.
+   Refuses with 1 2 3 4 7. */
 uint32_t moorspindle_find_spine(const double *xs, size_t xs_len, const double *ys, size_t ys_len,
         uint8_t p0, uint8_t p1, uint8_t p2, uint8_t p3, uint8_t *spine, size_t spine_len);
 
@@ -147,7 +148,7 @@ uint32_t moorspindle_count_affine_inliers(const double *px, size_t px_len,
         const double *eta, size_t eta_len, const double *affine, size_t affine_len,
         double threshold, uint64_t *inliers);
 
-/* *score: the most rows that agree, within 10 pixels, with the affine of one of a thousand
+/* *score: the most rows that agree, to less than 10 pixels, with the affine of one of a thousand
    triples of a fixed draw; fewer than three rows have 0. Refuses with 1 2 3. */
 uint32_t moorspindle_verify_pairs(const double *px, size_t px_len, const double *py, size_t py_len,
         const double *xi, size_t xi_len, const double *eta, size_t eta_len, uint64_t *score);
