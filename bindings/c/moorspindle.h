@@ -176,10 +176,10 @@ uint32_t moorspindle_compute_pixel_errors(const double *px, size_t px_len,
 
 /* Marks the rows of a plate: of `trials` triples of a fixed draw (at most 1,000), each fitted and
    refitted from the rows within `limit` pixels, the one with the most such rows. No trial had
-   more. Triples are drawn from the rows with at least a third of the greatest vote; with fewer
-   than three of these the run is untested: *tested is 0 and every row is on. Otherwise *tested is
-   1. *on is the number of ones; `mask` needs a byte for each row. `votes` may be longer or shorter
-   than the rows. Refuses with 1 2 3 7 9. */
+   more. Triples are drawn from the rows with at least a third, rounded down, of the greatest
+   vote; with fewer than three of these the run is untested: *tested is 0 and every row is on.
+   Otherwise *tested is 1. *on is the number of ones; `mask` needs a byte for each row. `votes`
+   may be longer or shorter than the rows. Refuses with 1 2 3 7 9. */
 uint32_t moorspindle_ransac_fit(const double *px, size_t px_len, const double *py, size_t py_len,
         const double *xi, size_t xi_len, const double *eta, size_t eta_len,
         const uint32_t *votes, size_t votes_len, double limit, uint32_t trials,
