@@ -4,8 +4,8 @@ use Prim.Native.Nat.{ℕ, zero, suc, _+_}
 use lib.Ieee.{Float, binary64, ofBits, neg, lt}
 use Rattle.floats.specs.Rounded.{_⊕_, _⊖_, _⊗_, _⊘_}
 use Rattle.floats.specs.Magnitude.{magnitudeOf}
-use Rattle.domain.specs.Answers.{numberOf}
-use Rattle.domain.specs.declared.Refusal.the-variants as refusal
+use Rattle.answer.specs.Answers.{numberOf}
+use Rattle.answer.specs.declared.Refusal.the-variants as refusal
 use Rattle.rows.specs.Rows.{Rows, rowAt, count}
 use Rattle.rows.specs.declared.Row.{Row}
 use Rattle.affine.specs.declared.Affine.{Affine}

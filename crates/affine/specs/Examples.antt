@@ -3,7 +3,7 @@ use mathlib.Core.Path.{_≡_, refl}
 use mathlib.Core.List.{[], _∷_}
 use lib.Ieee.{Float, binary64, ofBits, add, sub, mul, div, neg, lt}
 use Rattle.floats.specs.Magnitude.{magnitudeOf}
-use Rattle.domain.specs.declared.Refusal.the-variants as refusal
+use Rattle.answer.specs.declared.Refusal.the-variants as refusal
 use Rattle.rows.specs.Rows.{Rows, rows}
 use Rattle.rows.specs.declared.Row.{Row}
 use Rattle.affine.specs.declared.Affine.{Affine}

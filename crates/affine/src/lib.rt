@@ -1,5 +1,5 @@
 // The affine of three rows, and how many rows agree with an affine.
-use domain::Refusal;
+use answer::Refusal;
 use rows::Row;
 ghost use mathlib.Core.Path.{_≡_};
 ghost use mathlib.Core.Bool.{cond};

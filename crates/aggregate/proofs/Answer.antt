@@ -7,11 +7,11 @@ use native.Mathlib.Omega.{arith}
 use lib.Dec.{eqb, leb, ltb}
 use lib.ListN.{length, take, length-take}
 use borrow.Author.Tests.{eqb-true, leb-true, ltb-false}
-use Rattle.domain.specs.Answers.{first, roomFor}
-use Rattle.domain.specs.declared.Refusal.{Refusal}
-use Rattle.domain.specs.declared.Refusal.the-variants as refusal
-use Rattle.domain.specs.declared.Answer.the-variants as answer
-use Rattle.domain.proofs.Passed.{passed, both}
+use Rattle.answer.specs.Answers.{first, roomFor}
+use Rattle.answer.specs.declared.Refusal.{Refusal}
+use Rattle.answer.specs.declared.Refusal.the-variants as refusal
+use Rattle.answer.specs.declared.Answer.the-variants as answer
+use Rattle.answer.proofs.Passed.{passed, both}
 use Rattle.aggregate_choice.specs.Choice.{pairsOf}
 use Rattle.aggregate_choice.proofs.Pairs.{Below, below-pairs}
 use Rattle.aggregate.specs.Extract.{Given, Room, few, even, found, choiceIn, countAnswer, lengthsAnswer, valuesAnswer, inputAnswer, roomAnswer}

@@ -6,7 +6,7 @@ use mathlib.Core.List.{[], _∷_}
 use lib.IntN.{pos}
 use lib.Ieee.{Float, fin, ofBits, neg, le, lt, eq}
 use Rattle.domain.specs.Domain.{every}
-use Rattle.domain.specs.declared.Refusal.the-variants as refusal
+use Rattle.answer.specs.declared.Refusal.the-variants as refusal
 use Rattle.aggregate_votes.specs.Votes.{votesOf, counts, isFor, isMissing, votesAt}
 use Rattle.aggregate_choice.specs.Choice.{better, choose, claim, paired, pairsOf}
 use Rattle.aggregate.specs.declared.Pairs.the-variants as pairs

@@ -7,10 +7,10 @@ use lib.IntN.{ℤ}
 use lib.ListN.{length, getD}
 use lib.Ieee.{Float, nan}
 use Rattle.domain.specs.Domain.{isPosition, isSnr, every}
-use Rattle.domain.specs.Answers.{answerNumber, first, roomFor}
-use Rattle.domain.specs.declared.Refusal.the-variants as refusal
-use Rattle.domain.specs.declared.Answer.{Answer}
-use Rattle.domain.specs.declared.Answer.the-variants as answer
+use Rattle.answer.specs.Answers.{answerNumber, first, roomFor}
+use Rattle.answer.specs.declared.Refusal.the-variants as refusal
+use Rattle.answer.specs.declared.Answer.{Answer}
+use Rattle.answer.specs.declared.Answer.the-variants as answer
 use Rattle.aggregate_votes.specs.Votes.{Ids, ids, votesOf, missing}
 use Rattle.aggregate_choice.specs.declared.Choice.{Choice}
 use Rattle.aggregate_choice.specs.Choice.{chosenBy, pairsOf}

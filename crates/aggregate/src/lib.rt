@@ -1,10 +1,10 @@
 // Pairs of a detection and a catalogue position, by the votes of matches: aggregate.rs of the Rust.
-use domain::Answer;
-use domain::Refusal;
+use answer::Answer;
+use answer::Refusal;
 ghost use mathlib.Core.Path.{_≡_};
 ghost use Prim.Native.Nat.{_≤_};
 ghost use lib.ListN.{length};
-ghost use Rattle.domain.specs.Answers.{lentAfter};
+ghost use Rattle.answer.specs.Answers.{lentAfter};
 ghost use Rattle.aggregate.specs.Extract.{given, room, few, even, inside, inputAnswer, roomAnswer, votePairs, pairsAnswer, pairsNumber, answerOf};
 ghost use Rattle.aggregate.specs.Extract.{pairXs, pairYs, pairRas, pairDecs, pairVotes, pairSnrs};
 

@@ -286,7 +286,7 @@ pub fn print_words(list: &[u64]) {
 }
 
 pub fn print_float(x: f64) {
-    io::print_hex(STDOUT_FILENO, text::bits_of(x), 16);
+    io::print_hex(STDOUT_FILENO, digits::bits_of(x), 16);
 }
 
 pub fn print_floats(list: &[f64]) {

@@ -35,8 +35,8 @@ fn print_float(x: f64) {
 
 fn print_signed(n: i32) {
     let mut line = [0u8; 22];
-    let p = text::put_signed(&mut line, 0, n as i64);
-    let q = text::put_byte(&mut line, p, 10);
+    let p = digits::put_signed(&mut line, 0, n as i64);
+    let q = put::put_byte(&mut line, p, 10);
     io::write_all(STDOUT_FILENO, &line[..q]);
 }
 

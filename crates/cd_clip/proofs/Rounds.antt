@@ -10,8 +10,8 @@ use lib.Dec.{ltb, eqb}
 use lib.ListN.{length, take, drop-of-length-le}
 use lib.Seq.{take-at}
 use lib.Ieee.{Float}
-use Rattle.domain.specs.Answers.{written}
-use Rattle.domain.specs.declared.Refusal.{Refusal}
+use Rattle.answer.specs.Answers.{written}
+use Rattle.answer.specs.declared.Refusal.{Refusal}
 use Rattle.rows.specs.Rows.{Rows, count}
 use Rattle.cd_plate.specs.declared.Cd.{Cd}
 use Rattle.cd_plate.specs.declared.Inverse.{Inverse}

@@ -6,7 +6,7 @@ use lib.Ieee.{Float, nan, binary64, ofBits, ofInt, add, sub, mul, div, neg, lt, 
 use Rattle.floats.specs.Root.{rootOf}
 use Rattle.floats.specs.Magnitude.{magnitudeOf}
 use Rattle.domain.specs.Domain.{every}
-use Rattle.domain.specs.declared.Refusal.the-variants.{Count, Lengths, Value}
+use Rattle.answer.specs.declared.Refusal.the-variants.{Count, Lengths, Value}
 use Rattle.rows.specs.Rows.{Rows, rows, positionRows}
 use Rattle.elimination.specs.Elimination.{pivotRow, eliminateFrom, rowLess, unknownsTo}
 use Rattle.cd_plate.specs.declared.Cd.{Cd}

@@ -1,9 +1,9 @@
 // The weighted clip: rounds that turn far rows off and fit the others anew.
+use answer::Answer;
+use answer::Refusal;
 use cd_fit::CdFit;
 use cd_plate::Cd;
 use cd_round::Clip;
-use domain::Answer;
-use domain::Refusal;
 ghost use mathlib.Core.Path.{_≡_};
 ghost use lib.ListN.{length};
 ghost use Rattle.rows.specs.Rows.{rows};

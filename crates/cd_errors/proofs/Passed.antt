@@ -5,8 +5,8 @@ use mathlib.Core.List.{List}
 use Prim.Native.Nat.{ℕ, _≤_}
 use lib.Dec.{ltb}
 use borrow.Author.Tests.{not-false, ltb-false}
-use Rattle.domain.proofs.Passed.{passed}
-use Rattle.domain.specs.declared.Answer.the-variants as answer
+use Rattle.answer.proofs.Passed.{passed}
+use Rattle.answer.specs.declared.Answer.the-variants as answer
 use Rattle.rows.specs.Rows.{Rows, count}
 use Rattle.cd_plate.specs.declared.Cd.{Cd}
 use Rattle.cd_plate.specs.Plate.{isCd}

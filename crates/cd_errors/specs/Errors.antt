@@ -3,10 +3,10 @@ use mathlib.Core.Bool.{cond, not, _&&_}
 use mathlib.Core.List.{List}
 use Prim.Native.Nat.{ℕ}
 use lib.Ieee.{Float}
-use Rattle.domain.specs.Answers.{roomFor}
-use Rattle.domain.specs.declared.Refusal.the-variants as refusal
-use Rattle.domain.specs.declared.Answer.{Answer}
-use Rattle.domain.specs.declared.Answer.the-variants as answer
+use Rattle.answer.specs.Answers.{roomFor}
+use Rattle.answer.specs.declared.Refusal.the-variants as refusal
+use Rattle.answer.specs.declared.Answer.{Answer}
+use Rattle.answer.specs.declared.Answer.the-variants as answer
 use Rattle.rows.specs.Rows.{Rows, count}
 use Rattle.cd_plate.specs.declared.Cd.{Cd}
 use Rattle.cd_plate.specs.Plate.{isCd, inverseOf}

@@ -5,8 +5,8 @@ use lib.ListN.{replicate}
 use lib.Ieee.{Float, nan, binary64, ofBits, add, sub, mul, div, neg, lt, le, eq}
 use Rattle.floats.specs.Root.{rootOf}
 use Rattle.domain.specs.Domain.{every}
-use Rattle.domain.specs.declared.Refusal.the-variants.{Count, Lengths, Value, Room}
-use Rattle.domain.specs.declared.Answer.the-variants as answer
+use Rattle.answer.specs.declared.Refusal.the-variants.{Count, Lengths, Value, Room}
+use Rattle.answer.specs.declared.Answer.the-variants as answer
 use Rattle.rows.specs.Rows.{Rows, rows, positionRows}
 use Rattle.cd_plate.specs.declared.Cd.{Cd}
 use Rattle.cd_plate.specs.Plate.{nothing, determinantOf, isCd, inverseOf, squareOf}

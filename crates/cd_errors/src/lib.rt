@@ -1,10 +1,10 @@
 // The pixel errors of rows under a CD plate.
+use answer::Answer;
+use answer::Refusal;
 use cd_plate::Cd;
-use domain::Answer;
-use domain::Refusal;
 ghost use mathlib.Core.Path.{_≡_};
 ghost use lib.ListN.{length};
-ghost use Rattle.domain.specs.Answers.{lentAfter};
+ghost use Rattle.answer.specs.Answers.{lentAfter};
 ghost use Rattle.rows.specs.Rows.{rows};
 ghost use Rattle.cd_errors.specs.Errors.{errorsAnswer, pixelErrors};
 
@@ -29,7 +29,7 @@ fn check_errors(
     if !(cd_plate::good_masked(px, py, xi, eta, mask) & cd.is_finite()) {
         return Answer::Refused(Refusal::Value);
     }
-    domain::room_for(px.len(), places)
+    answer::room_for(px.len(), places)
 }
 
 // The error of each row in pixels, +0.0 where it is off, written from the front of a list.

@@ -1,13 +1,13 @@
 // The solvers for C: each call answers its number, and writes its result into what is lent.
+use answer::Refusal;
 use cd_fit::CdFit;
 use cd_plate::Cd;
 use cd_residuals::Residuals;
 use cd_rms::Rms;
-use domain::Refusal;
 use wcs::Wcs;
 ghost use mathlib.Core.Path.{_≡_};
 ghost use lib.ListN.{length};
-ghost use Rattle.domain.specs.Answers.{answerNumber, lentAfter, numberAfter};
+ghost use Rattle.answer.specs.Answers.{answerNumber, lentAfter, numberAfter};
 ghost use Rattle.rows.specs.Rows.{rows};
 ghost use Rattle.cd_fit.specs.Fit.{fitAnswer};
 ghost use Rattle.cd_normal.specs.Normal.{normalSolved, unknownsOf, normalAnswer};
@@ -22,8 +22,8 @@ fn put_fit(fit: CdFit, cd: &mut [f64]) -> u32
 {
     match fit {
         CdFit::Refused(why) => {
-            let room = domain::room_for(6, cd.len());
-            domain::in_turn(why, room).number()
+            let room = answer::room_for(6, cd.len());
+            answer::in_turn(why, room).number()
         }
         CdFit::Plate(m) => cd_plate::put_cd(cd, m).number(),
     }

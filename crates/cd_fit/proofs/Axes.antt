@@ -7,7 +7,7 @@ use native.Mathlib.Omega.{arith}
 use lib.Dec.{ltb}
 use lib.Ieee.{Float}
 use borrow.Author.Tests.{lt-ltb, le-ltb}
-use Rattle.domain.specs.declared.Refusal.the-variants as refusal
+use Rattle.answer.specs.declared.Refusal.the-variants as refusal
 use Rattle.elimination.specs.Elimination.{Matrix, cells, eliminated, unknowns, Solved, solution}
 use Rattle.elimination.specs.Holds.{Agrees}
 use Rattle.elimination.specs.declared.Eliminated.{Eliminated}

@@ -3,7 +3,7 @@ use mathlib.Core.Path.{_≡_, sym, _∙_}
 use mathlib.Core.List.{List}
 use Prim.Native.Nat.{ℕ}
 use lib.Ieee.{Float}
-use Rattle.domain.specs.declared.Answer.the-variants as answer
+use Rattle.answer.specs.declared.Answer.the-variants as answer
 use Rattle.rows.specs.Rows.{Rows, count}
 use Rattle.cd_sums.specs.Sums.{xiOf, etaOf}
 use Rattle.cd_sums.proofs.OnlyOn.{AgreeOn, WeightsOn, plain-on, weighted-on}

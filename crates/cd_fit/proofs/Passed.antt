@@ -8,8 +8,8 @@ use lib.ListN.{length}
 use lib.Ieee.{Float}
 use borrow.Author.Tests.{not-false, eqb-true}
 use lib.Dec.{eqb}
-use Rattle.domain.proofs.Passed.{passed}
-use Rattle.domain.specs.declared.Answer.the-variants as answer
+use Rattle.answer.proofs.Passed.{passed}
+use Rattle.answer.specs.declared.Answer.the-variants as answer
 use Rattle.rows.specs.Rows.{Rows, count}
 use Rattle.cd_plate.specs.Masked.{fewMasked, evenMasked}
 use Rattle.cd_plate.proofs.Even.{Even, even}

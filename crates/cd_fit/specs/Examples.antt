@@ -5,7 +5,7 @@ use lib.ListN.{replicate}
 use lib.Ieee.{nan, ofBits, add, sub, mul, div, neg, lt, le, eq}
 use Rattle.floats.specs.Magnitude.{magnitudeOf}
 use Rattle.domain.specs.Domain.{every}
-use Rattle.domain.specs.declared.Refusal.the-variants.{Count, Lengths, Value, Degenerate}
+use Rattle.answer.specs.declared.Refusal.the-variants.{Count, Lengths, Value, Degenerate}
 use Rattle.rows.specs.Rows.{Rows, rows, positionRows}
 use Rattle.elimination.specs.Elimination.{pivotRow, eliminateFrom, rowLess, unknownsTo}
 use Rattle.cd_plate.specs.declared.Cd.{Cd}

@@ -1,8 +1,8 @@
 // The fits of a CD plate to the rows that are on, plain and weighted.
+use answer::Answer;
+use answer::Refusal;
 use cd_plate::Cd;
 use cd_sums::Sums;
-use domain::Answer;
-use domain::Refusal;
 use elimination::Eliminated;
 ghost use mathlib.Core.Path.{_≡_};
 ghost use lib.ListN.{length};

@@ -3,7 +3,7 @@ ghost use mathlib.Core.Path.{_≡_};
 ghost use Prim.Native.Nat.{_≤_};
 ghost use lib.Dec.{eqb};
 ghost use lib.ListN.{length, replicate};
-ghost use Rattle.domain.specs.Answers.{written};
+ghost use Rattle.answer.specs.Answers.{written};
 ghost use Rattle.cd_mask.specs.Marks.{byteOf, ones};
 
 // 1 of a byte that is one, 0 of any other.

@@ -7,7 +7,7 @@ ghost use mathlib.Core.Bool.{true, false};
 ghost use Prim.Native.Nat.{_+_, _≤_, _<_};
 ghost use lib.ListN.{length};
 ghost use lib.Ieee.{le};
-ghost use Rattle.domain.specs.Answers.{written};
+ghost use Rattle.answer.specs.Answers.{written};
 ghost use Rattle.domain.specs.Domain.{isLimit};
 ghost use Rattle.rows.specs.Rows.{rows};
 ghost use Rattle.cd_plate.specs.Plate.{errorOf};

@@ -10,10 +10,10 @@ use lib.Dec.{ltb, eqb}
 use lib.ListN.{drop}
 use lib.Ieee.{Float}
 use borrow.Author.Tests.{ltb-false, eqb-true}
-use Rattle.domain.specs.Answers.{roomFor, written}
-use Rattle.domain.specs.declared.Refusal.the-variants.{Count, Lengths, Room}
-use Rattle.domain.specs.declared.Answer.the-variants.{Done, Refused}
-use Rattle.domain.proofs.Passed.{passed}
+use Rattle.answer.specs.Answers.{roomFor, written}
+use Rattle.answer.specs.declared.Refusal.the-variants.{Count, Lengths, Room}
+use Rattle.answer.specs.declared.Answer.the-variants.{Done, Refused}
+use Rattle.answer.proofs.Passed.{passed}
 use Rattle.elimination.specs.Elimination.{cells, eliminated, unknowns, Solved, Unknowns, Singular}
 use Rattle.elimination.specs.Holds.{Holds, Agrees}
 use Rattle.elimination.specs.declared.Eliminated.{Eliminated}

@@ -5,8 +5,8 @@ use mathlib.Core.List.{[], _∷_}
 use lib.IntN.{pos}
 use lib.Ieee.{Float, binary64, ofBits, ofInt, mul, sub, div, lt}
 use Rattle.floats.specs.Magnitude.{magnitudeOf}
-use Rattle.domain.specs.declared.Refusal.the-variants.{Count, Lengths, Room, Degenerate}
-use Rattle.domain.specs.declared.Answer.the-variants.{Done, Refused}
+use Rattle.answer.specs.declared.Refusal.the-variants.{Count, Lengths, Room, Degenerate}
+use Rattle.answer.specs.declared.Answer.the-variants.{Done, Refused}
 use Rattle.elimination.specs.Elimination.{pivotRow, eliminateFrom, rowLess, unknownsTo, Unknowns}
 use Rattle.cd_normal.specs.Normal.{normalSolved, testsAnswer, normalAnswer}
 

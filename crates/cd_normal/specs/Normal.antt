@@ -5,10 +5,10 @@ use mathlib.Core.List.{List, []}
 use lib.Dec.{ltb, eqb}
 use lib.ListN.{length, getD}
 use lib.Ieee.{Float, nan}
-use Rattle.domain.specs.Answers.{first, roomFor}
-use Rattle.domain.specs.declared.Refusal.the-variants.{Count, Lengths, Degenerate}
-use Rattle.domain.specs.declared.Answer.{Answer}
-use Rattle.domain.specs.declared.Answer.the-variants.{Done, Refused}
+use Rattle.answer.specs.Answers.{first, roomFor}
+use Rattle.answer.specs.declared.Refusal.the-variants.{Count, Lengths, Degenerate}
+use Rattle.answer.specs.declared.Answer.{Answer}
+use Rattle.answer.specs.declared.Answer.the-variants.{Done, Refused}
 use Rattle.elimination.specs.Elimination.{Matrix, cells, Solved, Unknowns, Singular, solution}
 
 -- n rows: a matrix given row by row, with its right side in column n

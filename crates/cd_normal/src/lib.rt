@@ -1,12 +1,12 @@
 // `solve_normal_equations`: a square system of up to 54 unknowns, on every float.
-use domain::Answer;
-use domain::Refusal;
+use answer::Answer;
+use answer::Refusal;
 use elimination::Eliminated;
 ghost use mathlib.Core.Path.{_≡_};
 ghost use mathlib.Core.List.{[], _∷_, _++_};
 ghost use Prim.Native.Nat.{_+_, _*_, _≤_};
 ghost use lib.ListN.{length};
-ghost use Rattle.domain.specs.Answers.{lentAfter};
+ghost use Rattle.answer.specs.Answers.{lentAfter};
 ghost use Rattle.elimination.specs.Holds.{Holds};
 ghost use Rattle.cd_normal.specs.Normal.{system, normalSolved, solvedAnswer, unknownsOf, testsAnswer, normalAnswer};
 
@@ -131,7 +131,7 @@ fn check_lengths(a: usize, b: usize, n: usize, x: usize) -> Answer
     if !((a == n * n) & (b == n)) {
         return Answer::Refused(Refusal::Lengths);
     }
-    domain::room_for(n, x)
+    answer::room_for(n, x)
 }
 
 // The unknowns of n equations, a given row by row, written from the front of x; or a refusal, which

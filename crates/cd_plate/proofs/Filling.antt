@@ -5,7 +5,7 @@ use Prim.Native.Nat.{ℕ, zero, suc, _+_, _<_}
 use native.Mathlib.Numerals.{add-one}
 use lib.ListN.{length, getD, set, drop, length-append, length-set}
 use lib.Seq.{drop-cons, set-at}
-use Rattle.domain.specs.Answers.{written}
+use Rattle.answer.specs.Answers.{written}
 use Rattle.cd_plate.specs.Filled.{filled}
 
 pub filled-length : {A : Type 0} (f : ℕ → A) (k : ℕ) → length (filled f k) ≡ k

@@ -1,12 +1,12 @@
 // A CD plate: six numbers, their inverse, and the error of a row; and what the calls ask of rows with a mask.
-use domain::Answer;
-use domain::Refusal;
+use answer::Answer;
+use answer::Refusal;
 use rows::Row;
 ghost use mathlib.Core.Path.{_≡_};
 ghost use mathlib.Core.Bool.{cond};
 ghost use Prim.Native.Nat.{_≤_};
 ghost use lib.ListN.{length};
-ghost use Rattle.domain.specs.Answers.{roomFor, written, lentAfter};
+ghost use Rattle.answer.specs.Answers.{roomFor, written, lentAfter};
 ghost use Rattle.rows.specs.Rows.{rows};
 ghost use Rattle.cd_plate.specs.Plate.{determinantOf, isCd, inverseOf, squareOf, errorOf, nothing};
 ghost use Rattle.cd_plate.specs.Masked.{fewMasked, evenMasked, goodMasked};

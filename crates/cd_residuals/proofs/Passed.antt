@@ -8,8 +8,8 @@ use lib.ListN.{length}
 use lib.Ieee.{lt}
 use borrow.Author.Tests.{not-false, ltb-false, eqb-true}
 use Rattle.floats.specs.Magnitude.{magnitudeOf}
-use Rattle.domain.proofs.Passed.{passed, neither}
-use Rattle.domain.specs.declared.Answer.the-variants as answer
+use Rattle.answer.proofs.Passed.{passed, neither}
+use Rattle.answer.specs.declared.Answer.the-variants as answer
 use Rattle.rows.specs.Rows.{Rows, count, fewRows, evenRows}
 use Rattle.cd_plate.specs.Plate.{leastDeterminant, determinantOf}
 use Rattle.wcs.specs.declared.Wcs.{Wcs}

@@ -5,7 +5,7 @@ use lib.Ieee.{Float, nan, binary64, ofBits, add, sub, mul, div, neg, lt, le, eq}
 use Rattle.floats.specs.Magnitude.{magnitudeOf}
 use Rattle.floats.specs.Root.{rootOf}
 use Rattle.domain.specs.Domain.{every}
-use Rattle.domain.specs.declared.Refusal.the-variants.{Value, Room}
+use Rattle.answer.specs.declared.Refusal.the-variants.{Value, Room}
 use Rattle.rows.specs.Rows.{Rows, rows, positionRows}
 use Rattle.cd_plate.specs.Plate.{nothing, determinantOf, isCd, inverseOf}
 use Rattle.cd_plate.specs.Filled.{filled}

@@ -6,10 +6,10 @@ use lib.Dec.{ltb}
 use lib.Ieee.{Float, lt}
 use Rattle.floats.specs.Magnitude.{magnitudeOf}
 use Rattle.floats.specs.Root.{rootOf}
-use Rattle.domain.specs.Answers.{numberOf, first, roomFor}
-use Rattle.domain.specs.declared.Refusal.the-variants as refusal
-use Rattle.domain.specs.declared.Answer.{Answer}
-use Rattle.domain.specs.declared.Answer.the-variants as answer
+use Rattle.answer.specs.Answers.{numberOf, first, roomFor}
+use Rattle.answer.specs.declared.Refusal.the-variants as refusal
+use Rattle.answer.specs.declared.Answer.{Answer}
+use Rattle.answer.specs.declared.Answer.the-variants as answer
 use Rattle.rows.specs.Rows.{Rows, rowAt, count, fewRows, evenRows, positionRows}
 use Rattle.rows.specs.declared.Row.{Row}
 use Rattle.cd_plate.specs.declared.Inverse.{Inverse}

@@ -1,14 +1,14 @@
 // The residuals of rows in degrees under a WCS.
+use answer::Answer;
+use answer::Refusal;
 use cd_plate::Cd;
 use cd_plate::Inverse;
-use domain::Answer;
-use domain::Refusal;
 use rows::Row;
 use wcs::Wcs;
 ghost use mathlib.Core.Path.{_≡_};
 ghost use Prim.Native.Nat.{_≤_};
 ghost use lib.ListN.{length};
-ghost use Rattle.domain.specs.Answers.{written, lentAfter};
+ghost use Rattle.answer.specs.Answers.{written, lentAfter};
 ghost use Rattle.rows.specs.Rows.{rows};
 ghost use Rattle.cd_plate.specs.Filled.{filled};
 ghost use Rattle.cd_residuals.specs.Residuals.{inputAnswer, foundOf, residualOf, xAt, yAt, pxAt, roomAnswer};
@@ -82,7 +82,7 @@ fn room_of(need: usize, x: usize, y: usize, px: usize) -> Answer
     if (x < need) | (y < need) {
         return Answer::Refused(Refusal::Room);
     }
-    domain::room_for(need, px)
+    answer::room_for(need, px)
 }
 
 // Writes the residuals of the first n rows from the front of three lists that have the room.

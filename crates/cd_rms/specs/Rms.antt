@@ -7,8 +7,8 @@ use lib.IntN.{pos}
 use lib.ListN.{length, getD}
 use lib.Ieee.{Float, nan, binary64, ofBits, ofInt, add, mul, div, lt}
 use Rattle.floats.specs.Root.{rootOf}
-use Rattle.domain.specs.Answers.{numberOf}
-use Rattle.domain.specs.declared.Refusal.the-variants as refusal
+use Rattle.answer.specs.Answers.{numberOf}
+use Rattle.answer.specs.declared.Refusal.the-variants as refusal
 use Rattle.cd_rms.specs.declared.Rms.{Rms}
 use Rattle.cd_rms.specs.declared.Rms.the-variants as rms
 use Rattle.cd_rms.specs.declared.Weighed.{Weighed}

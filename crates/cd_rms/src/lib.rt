@@ -1,5 +1,5 @@
 // The root mean square of residuals, plain and weighted.
-use domain::Refusal;
+use answer::Refusal;
 ghost use mathlib.Core.Path.{_≡_};
 ghost use Prim.Native.Nat.{_≤_};
 ghost use lib.ListN.{length};

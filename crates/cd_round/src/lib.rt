@@ -4,7 +4,7 @@ ghost use mathlib.Core.Bool.{cond, _&&_};
 ghost use Prim.Native.Nat.{_≤_};
 ghost use lib.ListN.{length};
 ghost use lib.Ieee.{lt};
-ghost use Rattle.domain.specs.Answers.{written};
+ghost use Rattle.answer.specs.Answers.{written};
 ghost use Rattle.floats.specs.Rounded.{_⊕_, _⊗_};
 ghost use Rattle.cd_round.specs.Round.{rootsOf, squaresTo, clipOf, anyRejected, maskLeft};
 

@@ -9,10 +9,10 @@ use lib.Dec.{leb, ltb, eqb}
 use lib.ListN.{length}
 use lib.Ieee.{Float}
 use borrow.Author.Tests.{lt-ltb, le-ltb, ltb-false, leb-true, le-leb, eqb-true, not-false}
-use Rattle.domain.proofs.Passed.{passed}
+use Rattle.answer.proofs.Passed.{passed}
 use Rattle.domain.specs.Domain.{isLimit}
-use Rattle.domain.specs.declared.Refusal.the-variants as refusal
-use Rattle.domain.specs.declared.Answer.the-variants as answer
+use Rattle.answer.specs.declared.Refusal.the-variants as refusal
+use Rattle.answer.specs.declared.Answer.the-variants as answer
 use Rattle.rows.specs.Rows.{Rows, count, fewRows, evenRows, positionRows}
 use Rattle.draw.specs.Best as best
 use Rattle.cd_plate.specs.declared.Cd.{Cd}

@@ -4,9 +4,9 @@ use mathlib.Core.List.{List}
 use Prim.Native.Nat.{ℕ, _<_}
 use lib.ListN.{length, replicate}
 use lib.Ieee.{Float}
-use Rattle.domain.specs.Answers.{written}
-use Rattle.domain.specs.declared.Refusal.{Refusal}
-use Rattle.domain.specs.declared.Answer.the-variants as answer
+use Rattle.answer.specs.Answers.{written}
+use Rattle.answer.specs.declared.Refusal.{Refusal}
+use Rattle.answer.specs.declared.Answer.the-variants as answer
 use Rattle.rows.specs.Rows.{Rows, count}
 use Rattle.cd_pool.specs.Pool.{poolOf}
 use Rattle.cd_run.specs.declared.CdRun.{CdRun}

@@ -7,7 +7,7 @@ use lib.Ieee.{Float, nan, binary64, ofBits, add, sub, mul, div, neg, lt, le, eq}
 use Rattle.floats.specs.Magnitude.{magnitudeOf}
 use Rattle.floats.specs.Root.{rootOf}
 use Rattle.domain.specs.Domain.{every}
-use Rattle.domain.specs.declared.Refusal.the-variants.{Count, Lengths, Value, Room, Few}
+use Rattle.answer.specs.declared.Refusal.the-variants.{Count, Lengths, Value, Room, Few}
 use Rattle.rows.specs.Rows.{Rows, rows, positionRows}
 use Rattle.draw.specs.Draw.{nextWord, tripleAfter, triples}
 use Rattle.draw.specs.Best.{improved, keepIf, keep, run}

@@ -7,11 +7,11 @@ use lib.Dec.{leb, ltb}
 use lib.ListN.{length, replicate}
 use lib.Ieee.{Float}
 use Rattle.domain.specs.Domain.{isLimit}
-use Rattle.domain.specs.Answers.{numberOf, roomFor, written}
-use Rattle.domain.specs.declared.Refusal.{Refusal}
-use Rattle.domain.specs.declared.Refusal.the-variants as refusal
-use Rattle.domain.specs.declared.Answer.{Answer}
-use Rattle.domain.specs.declared.Answer.the-variants as answer
+use Rattle.answer.specs.Answers.{numberOf, roomFor, written}
+use Rattle.answer.specs.declared.Refusal.{Refusal}
+use Rattle.answer.specs.declared.Refusal.the-variants as refusal
+use Rattle.answer.specs.declared.Answer.{Answer}
+use Rattle.answer.specs.declared.Answer.the-variants as answer
 use Rattle.rows.specs.Rows.{Rows, count, fewRows, evenRows, positionRows}
 use Rattle.cd_plate.specs.declared.Cd.{Cd}
 use Rattle.cd_pool.specs.Pool.{poolOf}

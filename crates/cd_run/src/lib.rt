@@ -1,9 +1,9 @@
 // The CD run: of the plates of a fixed draw, the one that the most rows are near to.
+use answer::Answer;
+use answer::Refusal;
 use cd_fit::CdFit;
 use cd_near::Reach;
 use cd_plate::Cd;
-use domain::Answer;
-use domain::Refusal;
 ghost use mathlib.Core.Path.{_≡_};
 ghost use mathlib.Core.Bool.{true};
 ghost use Prim.Native.Nat.{ℕ, _<_, _≤_};
@@ -62,7 +62,7 @@ fn check_run(
     if !(rows::position_rows(px, py, xi, eta) & domain::is_limit(limit)) {
         return Answer::Refused(Refusal::Value);
     }
-    domain::room_for(px.len(), places)
+    answer::room_for(px.len(), places)
 }
 
 // A run over a pool. The mask is written once, when nothing is left that could refuse.

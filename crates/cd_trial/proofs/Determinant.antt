@@ -7,7 +7,7 @@ use Prim.Native.Nat.{ℕ}
 use native.Mathlib.Omega.{arith}
 use lib.Ieee.{Float, lt}
 use Rattle.floats.specs.Magnitude.{magnitudeOf}
-use Rattle.domain.specs.declared.Refusal.the-variants as refusal
+use Rattle.answer.specs.declared.Refusal.the-variants as refusal
 use Rattle.rows.specs.Rows.{Rows, count}
 use Rattle.draw.specs.Draw.{Triple, isRepeated}
 use Rattle.elimination.specs.Elimination.{Solved, Unknowns, Singular}

@@ -7,7 +7,7 @@ use Prim.Native.Nat.{ℕ, _<_}
 use lib.ListN.{length, take}
 use lib.Ieee.{Float}
 use lib.Seq.{take-at}
-use Rattle.domain.specs.Answers.{written}
+use Rattle.answer.specs.Answers.{written}
 use Rattle.rows.specs.Rows.{Rows, rowAt}
 use Rattle.rows.specs.Rows as rows
 use Rattle.rows.specs.declared.Row.{Row}

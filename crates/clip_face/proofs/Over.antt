@@ -4,7 +4,7 @@ use mathlib.Core.List.{List}
 use native.Mathlib.Nat.{le-of-eq}
 use lib.ListN.{length, drop-of-length-le}
 use lib.Ieee.{Float}
-use Rattle.domain.specs.Answers.{roomFor, lentAfter}
+use Rattle.answer.specs.Answers.{roomFor, lentAfter}
 use Rattle.cd_plate.specs.declared.Cd.{Cd}
 use Rattle.cd_plate.specs.Six.{cdNumbers}
 

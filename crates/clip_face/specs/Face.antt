@@ -5,7 +5,7 @@ use Prim.Native.Nat.{ℕ}
 use lib.Dec.{leb, eqb}
 use lib.ListN.{length}
 use lib.Ieee.{Float}
-use Rattle.domain.specs.declared.Refusal.the-variants as refusal
+use Rattle.answer.specs.declared.Refusal.the-variants as refusal
 use Rattle.rows.specs.Rows.{Rows}
 use Rattle.cd_plate.specs.Masked.{fewMasked}
 use Rattle.cd_clip.specs.declared.Clipped.{Clipped}

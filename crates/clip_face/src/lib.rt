@@ -1,7 +1,7 @@
 // The clip for C: it answers its number, and hands the plate back in the six numbers that are lent.
+use answer::Refusal;
 use cd_clip::Clipped;
 use cd_plate::Cd;
-use domain::Refusal;
 ghost use mathlib.Core.Path.{_≡_};
 ghost use lib.ListN.{length};
 ghost use Rattle.rows.specs.Rows.{rows};

@@ -1,4 +1,2 @@
 pub mod Every
 pub mod Finite
-pub mod Passed
-pub mod Lent

@@ -10,9 +10,9 @@ use lib.Dec.{ltb, eqb}
 use lib.Ieee.{Float}
 use lib.ListN.{length, getD, set}
 use lib.Seq.{sets, sets-eq, getD-set-same, getD-set-other}
-use Rattle.domain.specs.declared.Refusal.the-variants as refusal
-use Rattle.domain.specs.declared.Answer.the-variants as answer
-use Rattle.domain.proofs.Passed.{passed, neither}
+use Rattle.answer.specs.declared.Refusal.the-variants as refusal
+use Rattle.answer.specs.declared.Answer.the-variants as answer
+use Rattle.answer.proofs.Passed.{passed, neither}
 use Rattle.hash_index.specs.declared.Matches.the-variants as matches
 use Rattle.hash_index.specs.Matches.{tooMany, whole, inputAnswer, roomAnswer, lentAfterMatches}
 use Rattle.hash_index.specs.Steps.{nearTo, Counted, Taken}

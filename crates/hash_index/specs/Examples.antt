@@ -4,7 +4,7 @@ use mathlib.Core.List.{List, [], _∷_}
 use Prim.Native.Nat.{ℕ}
 use lib.Ieee.{Float, binary64, ofBits, mul, ofInt, toSigned}
 use Rattle.floats.specs.Floor.{floorOf}
-use Rattle.domain.specs.declared.Refusal.the-variants as refusal
+use Rattle.answer.specs.declared.Refusal.the-variants as refusal
 use Rattle.quad_key.specs.Key.{laneOf, keyOf, neighbourKey}
 use Rattle.hash_lanes.specs.Lanes.{hashAt}
 use Rattle.hash_index.specs.declared.Matches.the-variants as matches

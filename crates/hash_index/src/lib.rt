@@ -1,6 +1,6 @@
 // The matches of image quads with catalogue quads: what an index of the catalogue's keys would give.
-use domain::Answer;
-use domain::Refusal;
+use answer::Answer;
+use answer::Refusal;
 ghost use mathlib.Core.Path.{_≡_};
 ghost use Prim.Native.Nat.{_+_, _≤_};
 ghost use lib.ListN.{length};

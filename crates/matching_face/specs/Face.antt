@@ -3,8 +3,8 @@ use mathlib.Core.List.{List}
 use Prim.Native.Nat.{ℕ, _/_}
 use lib.ListN.{length}
 use lib.Ieee.{Float}
-use Rattle.domain.specs.declared.Answer.{Answer}
-use Rattle.domain.specs.declared.Answer.the-variants as answer
+use Rattle.answer.specs.declared.Answer.{Answer}
+use Rattle.answer.specs.declared.Answer.the-variants as answer
 use Rattle.hash_index.specs.declared.Matches.{Matches}
 use Rattle.hash_index.specs.declared.Matches.the-variants as matches
 use Rattle.hash_index.specs.Matches.{matchesOf, matchesAnswer}

@@ -3,7 +3,7 @@ use aggregate::Pairs;
 use hash_index::Matches;
 ghost use mathlib.Core.Path.{_≡_};
 ghost use lib.ListN.{length};
-ghost use Rattle.domain.specs.Answers.{answerNumber, lentAfter, numberAfter};
+ghost use Rattle.answer.specs.Answers.{answerNumber, lentAfter, numberAfter};
 ghost use Rattle.hash_index.specs.Matches.{matchesOf};
 ghost use Rattle.aggregate.specs.Extract.{given, room, pairXs, pairYs, pairRas, pairDecs, pairVotes, pairSnrs};
 ghost use Rattle.matching_face.specs.Face.{matchesFace, matchesCount, pairsFace, pairsCount};

@@ -6,7 +6,7 @@ ghost use Rattle.floats.specs.Magnitude.{magnitudeOf};
 ghost use Rattle.floats.specs.Floor.{floorOf};
 ghost use Rattle.floats.specs.Power.{powerOf};
 ghost use Rattle.floats.specs.Root.{rootOf, IsRoot};
-ghost use Rattle.domain.specs.Answers.{answerNumber, lentAfter, numberAfter};
+ghost use Rattle.answer.specs.Answers.{answerNumber, lentAfter, numberAfter};
 ghost use Rattle.quad_key.specs.Key.{keyOf, neighbourKeys, keysAnswer};
 ghost use Rattle.rows.specs.Rows.{rows};
 ghost use Rattle.quad.specs.Quads.{quadsAnswer, quadPlaces, quadHashes};

@@ -10,10 +10,10 @@ use lib.Dec.{ltb}
 use lib.ListN.{set, length, getD, take, drop, length-append, length-take, drop-of-length-le}
 use lib.Seq.{sets-eq, sets, length-sets}
 use lib.Ieee.{Float}
-use Rattle.domain.specs.declared.Refusal.the-variants as refusal
-use Rattle.domain.specs.declared.Answer.the-variants as answer
-use Rattle.domain.specs.Answers.{first}
-use Rattle.domain.proofs.Passed.{passed, both, neither}
+use Rattle.answer.specs.declared.Refusal.the-variants as refusal
+use Rattle.answer.specs.declared.Answer.the-variants as answer
+use Rattle.answer.specs.Answers.{first}
+use Rattle.answer.proofs.Passed.{passed, both, neither}
 use Rattle.quad_spine.specs.Spine.{starsAnswer}
 use Rattle.quad_visit.specs.Visit.{visited}
 use Rattle.quad_visit.proofs.Laws.{rest}

@@ -6,10 +6,10 @@ use lib.Dec.{ltb}
 use lib.ListN.{length}
 use lib.Ieee.{Float, lt}
 use Rattle.domain.specs.Domain.{isLimit}
-use Rattle.domain.specs.Answers.{first, written}
-use Rattle.domain.specs.declared.Refusal.the-variants as refusal
-use Rattle.domain.specs.declared.Answer.{Answer}
-use Rattle.domain.specs.declared.Answer.the-variants as answer
+use Rattle.answer.specs.Answers.{first, written}
+use Rattle.answer.specs.declared.Refusal.the-variants as refusal
+use Rattle.answer.specs.declared.Answer.{Answer}
+use Rattle.answer.specs.declared.Answer.the-variants as answer
 use Rattle.quad_spine.specs.declared.Four.{Four}
 use Rattle.quad_spine.specs.declared.Scaled.{Scaled}
 use Rattle.quad_spine.specs.declared.Scaled.the-variants as scaled

@@ -1,6 +1,6 @@
 // The quads of a list of stars: each set of four near stars, once.
-use domain::Answer;
-use domain::Refusal;
+use answer::Answer;
+use answer::Refusal;
 use quad_spine::Four;
 use quad_spine::Quad;
 use quad_spine::Scaled;

@@ -2,8 +2,8 @@
 use mathlib.Core.Bool.{Bool, true, false, cond, _&&_}
 use Prim.Native.Nat.{ℕ, _+_, _-_}
 use lib.Dec.{ltb}
-use Rattle.domain.specs.Answers.{numberOf}
-use Rattle.domain.specs.declared.Refusal.the-variants.{Count, Place}
+use Rattle.answer.specs.Answers.{numberOf}
+use Rattle.answer.specs.declared.Refusal.the-variants.{Count, Place}
 use Rattle.quad_combinations.specs.declared.Set.{Set}
 use Rattle.quad_combinations.specs.declared.State.{State}
 use Rattle.quad_combinations.specs.declared.Start.{Start}

@@ -1,7 +1,7 @@
 -- Worked examples, each by computation.
 use mathlib.Core.Path.{_≡_, refl}
 use mathlib.Core.List.{[], _∷_}
-use Rattle.domain.specs.declared.Refusal.the-variants.{Count, Place}
+use Rattle.answer.specs.declared.Refusal.the-variants.{Count, Place}
 use Rattle.quad_combinations.specs.declared.Start.{Start}
 use Rattle.quad_combinations.specs.declared.Step.{Step}
 use Rattle.quad_combinations.specs.Combinations.{four, standing, ended, isRising, firstOf, startOf, afterOf, stepOf}

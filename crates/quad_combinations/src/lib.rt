@@ -1,5 +1,5 @@
 // The sets of four places below n, one after another in rising order, as a step by value.
-use domain::Refusal;
+use answer::Refusal;
 ghost use mathlib.Core.Path.{_≡_};
 ghost use mathlib.Core.Bool.{true};
 ghost use Prim.Native.Nat.{_≤_};

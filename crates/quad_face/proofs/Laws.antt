@@ -6,9 +6,9 @@ use Prim.Native.Nat.{ℕ}
 use borrow.Author.Tests.{eqb-true, not-false}
 use lib.Dec.{ltb, eqb}
 use lib.ListN.{length}
-use Rattle.domain.specs.declared.Refusal.the-variants as refusal
-use Rattle.domain.specs.declared.Answer.the-variants as answer
-use Rattle.domain.proofs.Passed.{passed}
+use Rattle.answer.specs.declared.Refusal.the-variants as refusal
+use Rattle.answer.specs.declared.Answer.the-variants as answer
+use Rattle.answer.proofs.Passed.{passed}
 use Rattle.quad_face.specs.Face.{stateAnswer}
 
 -- bytes that pass are five

@@ -1,7 +1,7 @@
 -- Worked examples, each by computation.
 use mathlib.Core.Path.{_≡_, refl}
 use mathlib.Core.List.{[], _∷_}
-use Rattle.domain.specs.Answers.{answerNumber}
+use Rattle.answer.specs.Answers.{answerNumber}
 use Rattle.quad_combinations.specs.Combinations.{isRising, startOf, afterOf, stepOf}
 use Rattle.quad_face.specs.Face.{startFace, startWritten, nextFace, stepFrom, stepBytes, stepPlaces, stepGiven}
 

@@ -5,11 +5,11 @@ use Prim.Native.Nat.{ℕ}
 use lib.Dec.{ltb, eqb}
 use lib.ListN.{length, getD}
 use lib.Ieee.{Float}
-use Rattle.domain.specs.Answers.{first, roomFor}
+use Rattle.answer.specs.Answers.{first, roomFor}
 use Rattle.domain.specs.Domain.{isMaskByte}
-use Rattle.domain.specs.declared.Refusal.the-variants as refusal
-use Rattle.domain.specs.declared.Answer.{Answer}
-use Rattle.domain.specs.declared.Answer.the-variants as answer
+use Rattle.answer.specs.declared.Refusal.the-variants as refusal
+use Rattle.answer.specs.declared.Answer.{Answer}
+use Rattle.answer.specs.declared.Answer.the-variants as answer
 use Rattle.quad_key.specs.declared.Hash.{Hash}
 use Rattle.quad_combinations.specs.declared.State.{State}
 use Rattle.quad_combinations.specs.declared.Start.{Start}

@@ -1,6 +1,6 @@
 // The quad calls for C, but for the spine's: each answers its number, and writes its result into lent lists.
-use domain::Answer;
-use domain::Refusal;
+use answer::Answer;
+use answer::Refusal;
 use quad::Quads;
 use quad_combinations::Set;
 use quad_combinations::Start;
@@ -11,7 +11,7 @@ ghost use mathlib.Core.Path.{_≡_};
 ghost use mathlib.Core.Bool.{cond};
 ghost use Prim.Native.Nat.{_≤_};
 ghost use lib.ListN.{length};
-ghost use Rattle.domain.specs.Answers.{answerNumber, roomFor, lentAfter, numberAfter};
+ghost use Rattle.answer.specs.Answers.{answerNumber, roomFor, lentAfter, numberAfter};
 ghost use Rattle.quad_key.specs.Key.{keyOf, neighbourKeys, keysAnswer};
 ghost use Rattle.quad.specs.Quads.{quadsAnswer, quadPlaces, quadHashes};
 ghost use Rattle.quad_face.specs.Face.{stateBytes, startFace, startWritten, stateIn, stateAnswer, stepDone, stepPlaces, stepBytes, stepGiven};

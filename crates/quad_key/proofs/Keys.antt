@@ -5,8 +5,8 @@ use Prim.Native.Nat.{ℕ, _≤_}
 use borrow.Author.Tests.{le-ltb}
 use lib.ListN.{length}
 use lib.Seq.{sets, sets-eq}
-use Rattle.domain.specs.Answers.{lentAfter}
-use Rattle.domain.specs.declared.Answer.the-variants.{Done}
+use Rattle.answer.specs.Answers.{lentAfter}
+use Rattle.answer.specs.declared.Answer.the-variants.{Done}
 use Rattle.quad_key.specs.declared.Hash.{Hash}
 use Rattle.quad_key.specs.declared.Lanes.{Lanes}
 use Rattle.quad_key.specs.Key.{laneOf, neighbourKey, neighbourKeys, keysAnswer}

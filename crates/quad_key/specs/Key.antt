@@ -6,9 +6,9 @@ use lib.Dec.{ltb}
 use lib.IntN.{ℤ, pos, negsuc}
 use lib.Ieee.{Float, binary64, ofBits, mul, toSigned}
 use Rattle.floats.specs.Floor.{floorOf}
-use Rattle.domain.specs.declared.Refusal.the-variants.{Room}
-use Rattle.domain.specs.declared.Answer.{Answer}
-use Rattle.domain.specs.declared.Answer.the-variants.{Done, Refused}
+use Rattle.answer.specs.declared.Refusal.the-variants.{Room}
+use Rattle.answer.specs.declared.Answer.{Answer}
+use Rattle.answer.specs.declared.Answer.the-variants.{Done, Refused}
 use Rattle.quad_key.specs.declared.Hash.{Hash}
 
 -- the rounded product of v and 100

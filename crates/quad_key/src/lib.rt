@@ -3,11 +3,11 @@ ghost use mathlib.Core.Path.{_≡_};
 ghost use Prim.Native.Nat.{_+_, _<_, _≤_, _^_};
 ghost use lib.ListN.{length};
 ghost use lib.Seq.{sets};
-ghost use Rattle.domain.specs.Answers.{lentAfter};
+ghost use Rattle.answer.specs.Answers.{lentAfter};
 ghost use Rattle.quad_key.specs.Key.{heldFloor, pattern32, laneSum, keyOf, neighbourKeys, keysAnswer};
 ghost use Rattle.quad_key.specs.Steps.{lanesOf, threeKeys, nineKeys, keys27};
-use domain::Answer;
-use domain::Refusal;
+use answer::Answer;
+use answer::Refusal;
 
 // The four numbers of a quad's hash.
 pub struct Hash {

@@ -10,8 +10,11 @@ use lib.Dec.{ltb}
 use lib.ListN.{length, getD, drop, length-append, length-drop, List·getD-append}
 use lib.Seq.{getD-drop, drop-drop, drop-append-le}
 use lib.Ieee.{Float, nan}
-use Rattle.text.specs.Put.{hexFrom, decimalOf, decimalLine}
-use Rattle.text.proofs.Writing.{length-hex, length-decimal-one, length-decimal-more, length-decimal-most, length-decimal-line}
+use Rattle.digits.specs.Digits.{hexFrom, decimalOf}
+use Rattle.text.specs.Lines.{decimalLine}
+use Rattle.digits.proofs.Hex.{length-hex}
+use Rattle.digits.proofs.Decimal.{length-decimal-one, length-decimal-more, length-decimal-most}
+use Rattle.text.proofs.Lines.{length-decimal-line}
 use Rattle.quad_key.specs.Key.{keyOf}
 use Rattle.quad_program.specs.Form.{comma, newline}
 use Rattle.quad_program.specs.Print.{statusName, quadsName, quadName, keyName, numbered, placesLine, keyLine, quadLines, allLines, statusLine}

@@ -9,13 +9,13 @@ use lib.Dec.{ltb}
 use lib.ListN.{length, take, drop, length-append}
 use lib.Seq.{take-at, drop-at}
 use lib.Ieee.{Float}
-use Rattle.text.specs.Put.{Put}
-use Rattle.text.proofs.Writing.{put-front, put-length}
-use Rattle.domain.specs.Answers.{numberOf}
-use Rattle.domain.specs.declared.Refusal.{Refusal}
-use Rattle.domain.specs.declared.Refusal.the-variants as refusal
-use Rattle.domain.specs.declared.Answer.{Answer}
-use Rattle.domain.specs.declared.Answer.the-variants as answer
+use Rattle.put.specs.Put.{Put}
+use Rattle.put.proofs.Writing.{put-front, put-length}
+use Rattle.answer.specs.Answers.{numberOf}
+use Rattle.answer.specs.declared.Refusal.{Refusal}
+use Rattle.answer.specs.declared.Refusal.the-variants as refusal
+use Rattle.answer.specs.declared.Answer.{Answer}
+use Rattle.answer.specs.declared.Answer.the-variants as answer
 use Rattle.quad.specs.declared.Quads.{Quads}
 use Rattle.quad.specs.declared.Quads.the-variants as quads
 use Rattle.quad.specs.Quads.{quadOf, placesIn, hashIn, allPlaces, allHashes, quadPlaces, quadHashes, inputAnswer, roomAnswer, answerAfter, quadsAnswer, lentAfterQuads}

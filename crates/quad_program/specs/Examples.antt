@@ -4,7 +4,8 @@ use mathlib.Core.List.{List, [], _∷_}
 use Prim.Native.Nat.{ℕ}
 use lib.Ieee.{binary64, ofBits}
 use Rattle.scan.specs.Read.{hexValue, readHex, decimalValue, moreDecimal, readDecimal, readBytes}
-use Rattle.text.specs.Put.{hexFrom, decimalFrom, decimalOf, decimalLine}
+use Rattle.digits.specs.Digits.{hexFrom, decimalFrom, decimalOf}
+use Rattle.text.specs.Lines.{decimalLine}
 use Rattle.quad_program.specs.Form.{Form, hexField, decimalField, starOf, starsFrom, parsed}
 use Rattle.quad_program.specs.Print.{numbered, placesLine, keyLine, statusLine}
 use Rattle.quad_program.specs.Program.{programText}

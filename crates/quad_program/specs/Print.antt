@@ -3,8 +3,9 @@ use mathlib.Core.List.{List, [], _∷_, _++_}
 use Prim.Native.Nat.{ℕ, zero, suc}
 use lib.ListN.{getD, drop}
 use lib.Ieee.{Float, nan}
-use Rattle.text.specs.Put.{hexFrom, decimalOf, decimalLine}
-use Rattle.domain.specs.Answers.{numberOf}
+use Rattle.digits.specs.Digits.{hexFrom, decimalOf}
+use Rattle.text.specs.Lines.{decimalLine}
+use Rattle.answer.specs.Answers.{numberOf}
 use Rattle.quad_key.specs.declared.Hash.{Hash}
 use Rattle.quad_key.specs.Key.{keyOf}
 use Rattle.quad.specs.declared.Quads.{Quads}

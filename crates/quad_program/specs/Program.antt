@@ -2,8 +2,8 @@
 use mathlib.Core.List.{List}
 use Prim.Native.Nat.{ℕ}
 use lib.Ieee.{Float}
-use Rattle.domain.specs.declared.Refusal.the-variants as refusal
-use Rattle.domain.specs.Answers.{numberOf}
+use Rattle.answer.specs.declared.Refusal.the-variants as refusal
+use Rattle.answer.specs.Answers.{numberOf}
 use Rattle.quad.specs.Quads.{quadsAnswer, quadPlaces, quadHashes}
 use Rattle.quad_program.specs.Form.{Form, parsed}
 use Rattle.quad_program.specs.Print.{statusLine, printed}

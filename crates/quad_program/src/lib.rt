@@ -1,5 +1,5 @@
 // The quad program over slices: a text is read, its quads are found, and their text is written.
-use domain::Refusal;
+use answer::Refusal;
 use quad::Quads;
 use quad_key::Hash;
 use scan::Number;
@@ -7,7 +7,7 @@ use scan::Place;
 ghost use mathlib.Core.Path.{_≡_};
 ghost use Prim.Native.Nat.{_+_, _*_, _≤_};
 ghost use lib.ListN.{length, take, drop};
-ghost use Rattle.text.specs.Put.{Put, Room};
+ghost use Rattle.put.specs.Put.{Put, Room};
 ghost use Rattle.scan.specs.Read.{readBytes};
 ghost use Rattle.quad_program.specs.Form.{endedAt, hexField, decimalField, starOf, starsFrom, skyIn, starCount, parsed, formIn, parsedStars};
 ghost use Rattle.quad_program.specs.Print.{numbered, placesLine, keyLine, quadLines, allLines, statusLine, foundText};
@@ -137,8 +137,8 @@ fn put_numbered(buf: &mut [u8], at: usize, t: &[u8], n: u8) -> usize
     requires { ⌜ Room (now buf) at (numbered (now t) n) ⌝ }
     ensures { λ r. ⌜ Put (now (buf .entry)) at (numbered (now (t .entry)) n) r (now (buf .exit)) ⌝ }
 {
-    let p = text::put_bytes(buf, at, t);
-    text::put_decimal(buf, p, n as u64)
+    let p = put::put_bytes(buf, at, t);
+    digits::put_decimal(buf, p, n as u64)
 }
 
 // Puts the line of a quad's places.
@@ -157,9 +157,9 @@ fn put_key(buf: &mut [u8], at: usize, key: u64) -> usize
     requires { ⌜ Room (now buf) at (keyLine key) ⌝ }
     ensures { λ r. ⌜ Put (now (buf .entry)) at (keyLine key) r (now (buf .exit)) ⌝ }
 {
-    let p = text::put_bytes(buf, at, b"key=");
-    let q = text::put_hex(buf, p, key);
-    text::put_byte(buf, q, 10)
+    let p = put::put_bytes(buf, at, b"key=");
+    let q = digits::put_hex(buf, p, key);
+    put::put_byte(buf, q, 10)
 }
 
 // Puts both lines of the quad at j of the two lists: at most 42 bytes.

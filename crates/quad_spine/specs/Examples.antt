@@ -5,7 +5,7 @@ use mathlib.Core.List.{List, [], _∷_}
 use lib.ListN.{replicate}
 use lib.Ieee.{Float, nan, inf, binary64, ofBits, neg, mul, add, sub, div, lt, eq, le}
 use Rattle.domain.specs.Domain.{every}
-use Rattle.domain.specs.declared.Refusal.the-variants.{Count, Lengths, Value, Place, Degenerate}
+use Rattle.answer.specs.declared.Refusal.the-variants.{Count, Lengths, Value, Place, Degenerate}
 use Rattle.quad_spine.specs.declared.Spine.the-variants as spine
 use Rattle.quad_spine.specs.declared.Oriented.the-variants as turned
 use Rattle.quad_spine.specs.declared.Normal.the-variants as normal

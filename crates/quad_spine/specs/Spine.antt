@@ -5,11 +5,11 @@ use Prim.Native.Nat.{ℕ}
 use lib.Dec.{ltb, eqb}
 use lib.ListN.{length, getD}
 use lib.Ieee.{Float, nan, binary64, ofBits, add, sub, mul, div, lt, eq, le}
-use Rattle.domain.specs.Answers.{numberOf, first}
+use Rattle.answer.specs.Answers.{numberOf, first}
 use Rattle.domain.specs.Domain.{isPosition, every}
-use Rattle.domain.specs.declared.Refusal.the-variants as refusal
-use Rattle.domain.specs.declared.Answer.{Answer}
-use Rattle.domain.specs.declared.Answer.the-variants as answer
+use Rattle.answer.specs.declared.Refusal.the-variants as refusal
+use Rattle.answer.specs.declared.Answer.{Answer}
+use Rattle.answer.specs.declared.Answer.the-variants as answer
 use Rattle.quad_spine.specs.declared.Star.{Star}
 use Rattle.quad_spine.specs.declared.Four.{Four}
 use Rattle.quad_spine.specs.declared.Places.{Places}

@@ -10,13 +10,16 @@ use lib.ListN.{length, getD, drop, length-append, drop-of-length-le}
 use lib.Seq.{drop-cons}
 use lib.Ieee.{Float, toBits, binary64}
 use borrow.Author.Tests.{ltb-false, leb-true, eqb-true, not-false}
-use Rattle.text.specs.Put.{Put, Room, decimalOf}
-use Rattle.text.proofs.Writing.{length-float-line, length-decimal-line, length-decimal-one, put-front}
-use Rattle.domain.specs.Answers.{roomFor, lentAfter}
-use Rattle.domain.proofs.Passed.{passed}
-use Rattle.domain.specs.declared.Refusal.{Refusal}
-use Rattle.domain.specs.declared.Refusal.the-variants as refusal
-use Rattle.domain.specs.declared.Answer.the-variants as answer
+use Rattle.put.specs.Put.{Put, Room}
+use Rattle.digits.specs.Digits.{decimalOf}
+use Rattle.text.proofs.Lines.{length-float-line, length-decimal-line}
+use Rattle.digits.proofs.Decimal.{length-decimal-one}
+use Rattle.put.proofs.Writing.{put-front}
+use Rattle.answer.specs.Answers.{roomFor, lentAfter}
+use Rattle.answer.proofs.Passed.{passed}
+use Rattle.answer.specs.declared.Refusal.{Refusal}
+use Rattle.answer.specs.declared.Refusal.the-variants as refusal
+use Rattle.answer.specs.declared.Answer.the-variants as answer
 use Rattle.wcs.specs.declared.Wcs.{Wcs}
 use Rattle.wcs.specs.Wcs.{isWcs}
 use Rattle.sip_terms.specs.declared.Sip.{Sip}

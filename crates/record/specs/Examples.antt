@@ -5,8 +5,9 @@ use mathlib.Core.List.{[], _∷_}
 use Prim.Native.Nat.{ℕ}
 use lib.Ieee.{Float, nan, inf, binary64, ofBits, toBits, neg, lt, le, eq}
 use Rattle.floats.specs.Magnitude.{magnitudeOf}
-use Rattle.text.specs.Put.{hexFrom, decimalFrom, decimalOf, decimalLine, floatLine}
-use Rattle.domain.specs.declared.Refusal.the-variants.{Count, Lengths, Value, Order, Room}
+use Rattle.digits.specs.Digits.{hexFrom, decimalFrom, decimalOf}
+use Rattle.text.specs.Lines.{decimalLine, floatLine}
+use Rattle.answer.specs.declared.Refusal.the-variants.{Count, Lengths, Value, Order, Room}
 use Rattle.cd_plate.specs.Plate.{nothing, isCd}
 use Rattle.wcs.specs.declared.Wcs.{Wcs}
 use Rattle.wcs.specs.Wcs.{isWcs}

@@ -1,6 +1,6 @@
 // `write_record`: the record of a solution, written into lent bytes.
-use domain::Answer;
-use domain::Refusal;
+use answer::Answer;
+use answer::Refusal;
 use record_lines::Axis;
 use record_lines::Head;
 use sip_terms::Sip;
@@ -8,8 +8,8 @@ use wcs::Wcs;
 ghost use mathlib.Core.Path.{_≡_};
 ghost use Prim.Native.Nat.{_≤_};
 ghost use lib.ListN.{length};
-ghost use Rattle.domain.specs.Answers.{roomFor, lentAfter};
-ghost use Rattle.text.specs.Put.{Put, Room};
+ghost use Rattle.answer.specs.Answers.{roomFor, lentAfter};
+ghost use Rattle.put.specs.Put.{Put, Room};
 ghost use Rattle.record.specs.Record.{solution, isOrder, lengthsFit, inputAnswer, lineSize, termsSize, recordSize, recordText, writtenAfter, recordDone, recordAnswer, recordedNumber};
 
 // The most rows that a fit uses.
@@ -105,7 +105,7 @@ fn record_size(rows: usize, a: &[f64], b: &[f64]) -> usize
     requires { ⌜ (length (now a) ≤ 18) × (length (now b) ≤ 18) ⌝ }
     ensures { λ r. ⌜ r ≡ recordSize rows (now (a .entry)) (now (b .entry)) ⌝ }
 {
-    let digits = text::decimal_len(rows as u64);
+    let digits = digits::decimal_len(rows as u64);
     FIXED_SIZE + digits + terms_size(a) + terms_size(b)
 }
 
@@ -133,7 +133,7 @@ fn write_checked(fit: Sip, wcs: Wcs, order: u32, a: &[f64], b: &[f64], text: &mu
         (recordText (solution fit wcs order (now (a .entry)) (now (b .entry)))) (now (text .entry))) ⌝ }
 {
     let size = record_size(fit.rows_used, a, b);
-    match domain::room_for(size, text.len()) {
+    match answer::room_for(size, text.len()) {
         Answer::Refused(why) => Recorded::Refused(why),
         Answer::Done => Recorded::Written(put_record(fit, wcs, order, a, b, text)),
     }

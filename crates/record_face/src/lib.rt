@@ -1,12 +1,12 @@
 // The record for C: the call answers its number, and writes its text into what is lent.
-use domain::Refusal;
+use answer::Refusal;
 use record::Recorded;
 use sip_terms::Sip;
 use wcs::Wcs;
 ghost use mathlib.Core.Path.{_≡_};
 ghost use Prim.Native.Nat.{_≤_};
 ghost use lib.ListN.{length};
-ghost use Rattle.domain.specs.Answers.{answerNumber, lentAfter, numberAfter};
+ghost use Rattle.answer.specs.Answers.{answerNumber, lentAfter, numberAfter};
 ghost use Rattle.record.specs.Record.{recordText};
 ghost use Rattle.record_face.specs.Face.{sipIn, solutionIn, recordFace};
 

@@ -7,7 +7,7 @@ use native.Mathlib.Numerals.{add-one}
 use lib.ListN.{length, getD, set, take, drop, drop-of-length-le}
 use lib.Seq.{drop-cons, take-suc, take-suc-set}
 use lib.Ieee.{Float}
-use Rattle.text.specs.Put.{decimalLine}
+use Rattle.text.specs.Lines.{decimalLine}
 use Rattle.sip_terms.specs.declared.Term.{Term}
 use Rattle.sip_terms.specs.Terms.{nextTerm, isKept}
 use Rattle.record_lines.specs.declared.Head.{Head}

@@ -3,7 +3,7 @@ use mathlib.Core.Bool.{Bool, true, false}
 use mathlib.Core.List.{List, [], _∷_, _++_}
 use Prim.Native.Nat.{ℕ}
 use lib.Ieee.{Float, toBits, binary64}
-use Rattle.text.specs.Put.{floatLine, decimalLine}
+use Rattle.text.specs.Lines.{floatLine, decimalLine}
 use Rattle.wcs.specs.declared.Wcs.{Wcs}
 use Rattle.sip_terms.specs.declared.Sip.{Sip}
 use Rattle.sip_terms.specs.declared.Term.{Term}

@@ -5,7 +5,7 @@ use wcs::Wcs;
 ghost use mathlib.Core.Path.{_≡_};
 ghost use Prim.Native.Nat.{_+_, _<_, _≤_};
 ghost use lib.ListN.{length};
-ghost use Rattle.text.specs.Put.{Put, Room};
+ghost use Rattle.put.specs.Put.{Put, Room};
 ghost use Rattle.sip_terms.specs.Terms.{firstTerm};
 ghost use Rattle.record_lines.specs.Lines.{textOf, termLines};
 ghost use Rattle.record_lines.specs.Parts.{startLines, cdLines, headLines, keptLine, numbersOf, axisLines, errorLines};

@@ -6,8 +6,9 @@ use lib.ListN.{length, take, drop}
 use lib.Seq.{take-at, drop-at}
 use lib.Ieee.{Float, binary64, toBits, ofBits}
 use lib.Ieee.Bits.{ofBits-toBits, toBits-lt}
-use Rattle.text.specs.Put.{hexFrom, decimalOf, floatLine, decimalLine}
-use Rattle.text.proofs.Writing.{length-float-line}
+use Rattle.digits.specs.Digits.{hexFrom, decimalOf}
+use Rattle.text.specs.Lines.{floatLine, decimalLine}
+use Rattle.text.proofs.Lines.{length-float-line}
 use Rattle.scan.specs.declared.Number.{Number}
 use Rattle.scan.specs.declared.Number.the-variants as number
 use Rattle.scan.specs.Read.{readHex, decimalValue, readDecimal}

@@ -8,11 +8,11 @@ use lib.Dec.{ltb}
 use lib.ListN.{length}
 use lib.Ieee.{Float}
 use borrow.Author.Tests.{ltb-true, ltb-false, le-ltb}
-use Rattle.text.specs.Put.{decimalOf}
-use Rattle.text.proofs.Writing.{length-decimal-one, length-decimal-more}
-use Rattle.domain.specs.Answers.{first, roomFor}
-use Rattle.domain.specs.declared.Answer.{Answer}
-use Rattle.domain.specs.declared.Answer.the-variants as answer
+use Rattle.digits.specs.Digits.{decimalOf}
+use Rattle.digits.proofs.Decimal.{length-decimal-one, length-decimal-more}
+use Rattle.answer.specs.Answers.{first, roomFor}
+use Rattle.answer.specs.declared.Answer.{Answer}
+use Rattle.answer.specs.declared.Answer.the-variants as answer
 use Rattle.sip_terms.specs.Terms.{isKept}
 use Rattle.record_lines.specs.Lines.{Solution}
 use Rattle.record.specs.Record.{recordText, inputAnswer, recordDone, termsSize}

@@ -7,8 +7,8 @@ use native.Mathlib.Omega.{arith}
 use lib.ListN.{length}
 use lib.Ieee.{Float, ofBits, lt}
 use Rattle.floats.specs.Magnitude.{magnitudeOf}
-use Rattle.text.specs.Put.{floatLine}
-use Rattle.domain.specs.declared.Answer.the-variants as answer
+use Rattle.text.specs.Lines.{floatLine}
+use Rattle.answer.specs.declared.Answer.the-variants as answer
 use Rattle.cd_plate.specs.Plate.{nothing}
 use Rattle.sip_terms.specs.declared.Sip.{Sip}
 use Rattle.sip_terms.specs.declared.Term.{Term}

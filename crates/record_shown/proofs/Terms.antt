@@ -6,7 +6,7 @@ use Prim.Native.Nat.{ℕ, suc, _+_, _<_}
 use native.Mathlib.Omega.{arith}
 use lib.ListN.{length, getD}
 use lib.Ieee.{Float}
-use Rattle.text.specs.Put.{floatLine}
+use Rattle.text.specs.Lines.{floatLine}
 use Rattle.cd_plate.specs.Plate.{nothing}
 use Rattle.sip_terms.specs.declared.Term.{Term}
 use Rattle.sip_terms.specs.Terms.{nextTerm, termAt, isKept, keptOf}

@@ -5,8 +5,8 @@ use Prim.Native.Nat.{_≤_}
 use lib.Dec.{leb, eqb}
 use lib.ListN.{length}
 use borrow.Author.Tests.{leb-true, eqb-true, not-false}
-use Rattle.domain.proofs.Passed.{passed}
-use Rattle.domain.specs.declared.Answer.the-variants as answer
+use Rattle.answer.proofs.Passed.{passed}
+use Rattle.answer.specs.declared.Answer.the-variants as answer
 use Rattle.rows.specs.Rows.{Rows, count, fewRows, evenRows, rowsAnswer}
 
 -- at most a hundred, in four lists of one length

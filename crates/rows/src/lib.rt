@@ -1,6 +1,6 @@
 // Rows: four lists of one length, with a pixel and a point of the tangent plane for each row.
-use domain::Answer;
-use domain::Refusal;
+use answer::Answer;
+use answer::Refusal;
 ghost use mathlib.Core.Path.{_≡_};
 ghost use Prim.Native.Nat.{_<_};
 ghost use lib.ListN.{length};

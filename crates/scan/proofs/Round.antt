@@ -12,9 +12,9 @@ use lib.Arith.{mod-mul}
 use lib.ListN.{length, length-append}
 use Rattle.scan.specs.declared.Number.the-variants.{Is}
 use Rattle.scan.specs.declared.Place.the-variants.{Next}
-use Rattle.text.specs.Put.{hexOf, hexFrom, decimalFrom, decimalOf}
+use Rattle.digits.specs.Digits.{hexOf, hexFrom, decimalFrom, decimalOf}
 use Rattle.scan.specs.Read.{hexValue, readHex, decimalValue, held, moreDecimal, readDecimal, readBytes}
-use Rattle.text.proofs.Writing.{from-one, from-more, tenth}
+use Rattle.digits.proofs.Decimal.{from-one, from-more, tenth}
 
 -- a text is read where it stands
 pub text-read : (t ys : List ℕ) (p : ℕ) → readBytes t (t ++ ys) p ≡ Next (p + length t)

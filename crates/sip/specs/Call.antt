@@ -2,9 +2,9 @@
 use mathlib.Core.List.{List, []}
 use Prim.Native.Nat.{ℕ}
 use lib.Ieee.{Float}
-use Rattle.domain.specs.Answers.{numberOf}
-use Rattle.domain.specs.declared.Answer.{Answer}
-use Rattle.domain.specs.declared.Answer.the-variants as answer
+use Rattle.answer.specs.Answers.{numberOf}
+use Rattle.answer.specs.declared.Answer.{Answer}
+use Rattle.answer.specs.declared.Answer.the-variants as answer
 use Rattle.sip_terms.specs.Terms.{termCount}
 use Rattle.sip_sums.specs.Field.{Field}
 use Rattle.sip_tests.specs.Tests.{testsAnswer}

@@ -9,7 +9,7 @@ use Rattle.floats.specs.Magnitude.{magnitudeOf}
 use Rattle.floats.specs.Power.{powerOf}
 use Rattle.floats.specs.Root.{rootOf}
 use Rattle.domain.specs.Domain.{every}
-use Rattle.domain.specs.declared.Refusal.the-variants.{Degenerate}
+use Rattle.answer.specs.declared.Refusal.the-variants.{Degenerate}
 use Rattle.rows.specs.Rows.{rows, positionRows}
 use Rattle.cd_mask.specs.Marks.{ones}
 use Rattle.cd_plate.specs.Plate.{determinantOf, isCd}

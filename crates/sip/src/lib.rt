@@ -1,13 +1,13 @@
 // `fit_sip`: the SIP polynomials of rows under a WCS.
-use domain::Answer;
-use domain::Refusal;
+use answer::Answer;
+use answer::Refusal;
 use sip_terms::Sip;
 use wcs::Wcs;
 ghost use mathlib.Core.Path.{_≡_};
 ghost use Prim.Native.Nat.{_+_, _*_, _≤_};
 ghost use lib.ListN.{length, replicate};
-ghost use Rattle.domain.specs.declared.Answer.the-variants as answer;
-ghost use Rattle.domain.specs.Answers.{lentAfter};
+ghost use Rattle.answer.specs.declared.Answer.the-variants as answer;
+ghost use Rattle.answer.specs.Answers.{lentAfter};
 ghost use Rattle.rows.specs.Rows.{rows};
 ghost use Rattle.sip_sums.specs.Field.{field};
 ghost use Rattle.sip_rounds.specs.Rounds.{roundsOf};

@@ -2,10 +2,10 @@
 use mathlib.Core.Path.{_≡_, refl}
 use Prim.Native.Nat.{ℕ, suc, _-_, _≤_}
 use native.Mathlib.Omega.{arith}
-use Rattle.domain.specs.Answers.{answerNumber}
-use Rattle.domain.specs.declared.Refusal.{Refusal}
-use Rattle.domain.specs.declared.Answer.{Answer}
-use Rattle.domain.specs.declared.Answer.the-variants as answer
+use Rattle.answer.specs.Answers.{answerNumber}
+use Rattle.answer.specs.declared.Refusal.{Refusal}
+use Rattle.answer.specs.declared.Answer.{Answer}
+use Rattle.answer.specs.declared.Answer.the-variants as answer
 use Rattle.sip_terms.specs.Terms.{countTo, termCount}
 use Rattle.sip_sums.specs.Field.{Field}
 use Rattle.sip.specs.declared.SipFit.{SipFit}

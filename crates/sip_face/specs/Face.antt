@@ -4,7 +4,7 @@ use mathlib.Core.List.{List, [], _∷_}
 use Prim.Native.Nat.{ℕ}
 use lib.Dec.{ltb}
 use lib.Ieee.{Float}
-use Rattle.domain.specs.declared.Answer.{Answer}
+use Rattle.answer.specs.declared.Answer.{Answer}
 use Rattle.rows.specs.Rows.{Rows}
 use Rattle.cd_face.specs.Face.{ofSix}
 use Rattle.wcs.specs.Wcs.{wcsIn}

@@ -1,12 +1,12 @@
 // `fit_sip` for C: it answers its number, and writes its result into what is lent.
-use domain::Refusal;
+use answer::Refusal;
 use sip::SipFit;
 use sip_terms::Sip;
 use wcs::Wcs;
 ghost use mathlib.Core.Path.{_≡_};
 ghost use Prim.Native.Nat.{_≤_};
 ghost use lib.ListN.{length};
-ghost use Rattle.domain.specs.Answers.{answerNumber, written, lentAfter, numberAfter};
+ghost use Rattle.answer.specs.Answers.{answerNumber, written, lentAfter, numberAfter};
 ghost use Rattle.rows.specs.Rows.{rows};
 ghost use Rattle.wcs.specs.Wcs.{wcsIn};
 ghost use Rattle.sip_sums.specs.Field.{field};

@@ -1,11 +1,11 @@
 // The rounds of a SIP fit: both solves, the errors and a clip, until a clip turns no row off.
-use domain::Answer;
+use answer::Answer;
 use sip_terms::Sip;
 use wcs::Wcs;
 ghost use mathlib.Core.Path.{_≡_};
 ghost use Prim.Native.Nat.{_≤_};
 ghost use lib.ListN.{length};
-ghost use Rattle.domain.specs.declared.Answer.the-variants as answer;
+ghost use Rattle.answer.specs.declared.Answer.the-variants as answer;
 ghost use Rattle.rows.specs.Rows.{rows};
 ghost use Rattle.sip_sums.specs.Field.{field};
 ghost use Rattle.sip_sums.specs.Steps.{Lines};

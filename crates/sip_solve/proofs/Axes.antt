@@ -8,7 +8,7 @@ use lib.Dec.{ltb}
 use lib.ListN.{length}
 use lib.Ieee.{Float}
 use borrow.Author.Tests.{ltb-true, lt-ltb, le-ltb, eq-eqb, ne-eqb}
-use Rattle.domain.specs.declared.Refusal.the-variants as refusal
+use Rattle.answer.specs.declared.Refusal.the-variants as refusal
 use Rattle.rows.specs.Rows.{count}
 use Rattle.cd_mask.specs.Marks.{ones}
 use Rattle.elimination.specs.Elimination.{Matrix, cells, eliminated, unknowns, Solved, solution}

@@ -6,7 +6,7 @@ use lib.IntN.{pos}
 use lib.Ieee.{Float, binary64, ofBits, ofInt, add, sub, mul, div, neg, lt}
 use Rattle.floats.specs.Magnitude.{magnitudeOf}
 use Rattle.floats.specs.Power.{powerOf}
-use Rattle.domain.specs.declared.Refusal.the-variants.{Rows, Degenerate}
+use Rattle.answer.specs.declared.Refusal.the-variants.{Rows, Degenerate}
 use Rattle.rows.specs.Rows.{rows}
 use Rattle.cd_mask.specs.Marks.{ones}
 use Rattle.cd_plate.specs.Plate.{determinantOf}

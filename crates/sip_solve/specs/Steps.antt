@@ -4,7 +4,7 @@ use Prim.Native.Nat.{ℕ, _+_}
 use lib.Dec.{ltb}
 use lib.ListN.{length}
 use lib.Ieee.{Float}
-use Rattle.domain.specs.declared.Refusal.the-variants as refusal
+use Rattle.answer.specs.declared.Refusal.the-variants as refusal
 use Rattle.cd_mask.specs.Marks.{ones}
 use Rattle.elimination.specs.Elimination.{Matrix, solution}
 use Rattle.sip_sums.specs.Steps.{sumsIn}

@@ -1,6 +1,6 @@
 // Both solves of a SIP fit over the rows that are on: one elimination with two right sides, and the coefficients that are kept.
-use domain::Answer;
-use domain::Refusal;
+use answer::Answer;
+use answer::Refusal;
 use elimination::Eliminated;
 ghost use mathlib.Core.Path.{_≡_};
 ghost use Prim.Native.Nat.{_+_, _*_, _≤_, _<_};

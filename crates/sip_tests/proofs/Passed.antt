@@ -5,8 +5,8 @@ use Prim.Native.Nat.{ℕ, _≤_}
 use lib.Dec.{ltb, leb, eqb}
 use lib.ListN.{length}
 use borrow.Author.Tests.{leb-true, eqb-true, ltb-false, not-false}
-use Rattle.domain.proofs.Passed.{passed, both, neither}
-use Rattle.domain.specs.declared.Answer.the-variants as answer
+use Rattle.answer.proofs.Passed.{passed, both, neither}
+use Rattle.answer.specs.declared.Answer.the-variants as answer
 use Rattle.rows.specs.Rows.{count, fewRows, evenRows}
 use Rattle.wcs.specs.declared.Wcs.{Wcs}
 use Rattle.sip_terms.specs.Terms.{termCount}

@@ -7,8 +7,8 @@ use lib.ListN.{replicate}
 use lib.Ieee.{Float, binary64, ofBits, ofInt, sub, mul, neg, lt, le, eq}
 use Rattle.floats.specs.Magnitude.{magnitudeOf}
 use Rattle.domain.specs.Domain.{every}
-use Rattle.domain.specs.declared.Refusal.the-variants.{Count, Lengths, Value, Order, Rows, Room, Degenerate}
-use Rattle.domain.specs.declared.Answer.the-variants.{Done, Refused}
+use Rattle.answer.specs.declared.Refusal.the-variants.{Count, Lengths, Value, Order, Rows, Room, Degenerate}
+use Rattle.answer.specs.declared.Answer.the-variants.{Done, Refused}
 use Rattle.rows.specs.Rows.{rows, positionRows}
 use Rattle.cd_plate.specs.Plate.{determinantOf, isCd}
 use Rattle.wcs.specs.declared.Wcs.{Wcs}

@@ -6,10 +6,10 @@ use lib.ListN.{length}
 use lib.Ieee.{lt}
 use Rattle.floats.specs.Magnitude.{magnitudeOf}
 use Rattle.domain.specs.Domain.{isSnr, every}
-use Rattle.domain.specs.Answers.{first}
-use Rattle.domain.specs.declared.Refusal.the-variants as refusal
-use Rattle.domain.specs.declared.Answer.{Answer}
-use Rattle.domain.specs.declared.Answer.the-variants as answer
+use Rattle.answer.specs.Answers.{first}
+use Rattle.answer.specs.declared.Refusal.the-variants as refusal
+use Rattle.answer.specs.declared.Answer.{Answer}
+use Rattle.answer.specs.declared.Answer.the-variants as answer
 use Rattle.rows.specs.Rows.{count, fewRows, evenRows, positionRows}
 use Rattle.cd_plate.specs.Plate.{leastDeterminant, determinantOf}
 use Rattle.wcs.specs.Wcs.{plateOf, isWcs}

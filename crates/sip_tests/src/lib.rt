@@ -1,7 +1,7 @@
 // The tests of a SIP fit's input, in the order of this call.
+use answer::Answer;
+use answer::Refusal;
 use cd_plate::Cd;
-use domain::Answer;
-use domain::Refusal;
 use sip_terms::Sip;
 use wcs::Wcs;
 ghost use mathlib.Core.Path.{_≡_};

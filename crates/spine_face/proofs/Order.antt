@@ -6,11 +6,11 @@ use Prim.Native.Nat.{ℕ}
 use lib.Dec.{ltb, eqb}
 use lib.ListN.{length}
 use lib.Ieee.{Float}
-use Rattle.domain.specs.Answers.{numberOf, first}
+use Rattle.answer.specs.Answers.{numberOf, first}
 use Rattle.domain.specs.Domain.{isPosition, every}
-use Rattle.domain.specs.declared.Refusal.the-variants as refusal
-use Rattle.domain.specs.declared.Answer.{Answer}
-use Rattle.domain.specs.declared.Answer.the-variants as answer
+use Rattle.answer.specs.declared.Refusal.the-variants as refusal
+use Rattle.answer.specs.declared.Answer.{Answer}
+use Rattle.answer.specs.declared.Answer.the-variants as answer
 use Rattle.quad_spine.specs.declared.Scaled.{Scaled}
 use Rattle.quad_spine.specs.declared.Scaled.the-variants as scaled
 use Rattle.quad_spine.specs.Spine.{starsAnswer, placesAnswer, fourAnswer, fourAt, normalOf, normalAfter, normalAnswer}

@@ -2,7 +2,7 @@
 use mathlib.Core.Path.{_≡_, refl}
 use mathlib.Core.List.{List, [], _∷_}
 use lib.Ieee.{Float, binary64, ofBits, neg, mul, add, sub, lt, eq, le}
-use Rattle.domain.specs.Answers.{answerNumber, lentAfter}
+use Rattle.answer.specs.Answers.{answerNumber, lentAfter}
 use Rattle.domain.specs.Domain.{every}
 use Rattle.quad_spine.specs.Spine.{starAt, fourAt, distSq, longer, longest, inOrder, oriented, spineOf, placesOf, leastScale, normalOf, starsAnswer, placesAnswer, fourAnswer, spineAnswer, normalAnswer}
 use Rattle.spine_face.specs.Face.{spineFace, spineWritten, normalFace}

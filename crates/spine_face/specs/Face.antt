@@ -2,9 +2,9 @@
 use mathlib.Core.List.{List, [], _∷_}
 use Prim.Native.Nat.{ℕ}
 use lib.Ieee.{Float}
-use Rattle.domain.specs.Answers.{first, roomFor, inTurn}
-use Rattle.domain.specs.declared.Answer.{Answer}
-use Rattle.domain.specs.declared.Answer.the-variants as answer
+use Rattle.answer.specs.Answers.{first, roomFor, inTurn}
+use Rattle.answer.specs.declared.Answer.{Answer}
+use Rattle.answer.specs.declared.Answer.the-variants as answer
 use Rattle.quad_spine.specs.declared.Star.{Star}
 use Rattle.quad_spine.specs.declared.Spine.{Spine}
 use Rattle.quad_spine.specs.declared.Spine.the-variants as spine

@@ -1,6 +1,6 @@
 // The spine calls for C: each answers its number, and writes its result into lent lists.
-use domain::Answer;
-use domain::Refusal;
+use answer::Answer;
+use answer::Refusal;
 use quad_spine::Normal;
 use quad_spine::Oriented;
 use quad_spine::Quad;
@@ -10,7 +10,7 @@ ghost use mathlib.Core.Path.{_≡_};
 ghost use mathlib.Core.List.{[], _∷_};
 ghost use Prim.Native.Nat.{_≤_};
 ghost use lib.ListN.{length};
-ghost use Rattle.domain.specs.Answers.{answerNumber, roomFor, written, lentAfter};
+ghost use Rattle.answer.specs.Answers.{answerNumber, roomFor, written, lentAfter};
 ghost use Rattle.spine_face.specs.Face.{spineFace, spineWritten, star, orientFace, orientWritten, quadRoom};
 ghost use Rattle.spine_face.specs.Face.{hashNumbers, quadBytes, normalFace, hashWritten, placesWritten};
 
@@ -84,7 +84,7 @@ fn quad_room(hash: usize, places: usize) -> Answer
     if hash < 4 {
         return Answer::Refused(Refusal::Room);
     }
-    domain::room_for(4, places)
+    answer::room_for(4, places)
 }
 
 // The spine of the stars at four places, then the other two.
@@ -150,7 +150,7 @@ pub fn normalize_quad_ordered(
     match quad_spine::normalize_quad_ordered(xs, ys, a, b, c, d) {
         Normal::Refused(why) => {
             let room = quad_room(hash.len(), places.len());
-            domain::in_turn(why, room).number()
+            answer::in_turn(why, room).number()
         },
         Normal::Hashed(q) => put_quad(hash, places, q).number(),
     }

@@ -1,2 +1,2 @@
-pub mod Put
+pub mod Lines
 pub mod Examples

@@ -4,7 +4,7 @@ use mathlib.Core.List.{List, [], _∷_}
 use mathlib.Core.Option.{none}
 use lib.Ieee.{Float, nan, binary64, ofBits, neg, lt, le, eq}
 use Rattle.domain.specs.Domain.{every}
-use Rattle.domain.specs.declared.Refusal.the-variants.{Lengths, Value}
+use Rattle.answer.specs.declared.Refusal.the-variants.{Lengths, Value}
 use Rattle.rows.specs.Rows.{rows, positionRows, rowsAnswer}
 use Rattle.verify.specs.Score.{fitTriple, scoreAnswer}
 use Rattle.verify.specs.declared.Score.the-variants as score

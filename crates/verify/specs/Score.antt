@@ -6,9 +6,9 @@ use mathlib.Core.Option.{Option, some, none}
 use Prim.Native.Nat.{ℕ, _≤_}
 use lib.Dec.{ltb}
 use lib.Ieee.{Float, binary64, ofBits}
-use Rattle.domain.specs.Answers.{numberOf}
-use Rattle.domain.specs.declared.Answer.{Answer}
-use Rattle.domain.specs.declared.Answer.the-variants as answer
+use Rattle.answer.specs.Answers.{numberOf}
+use Rattle.answer.specs.declared.Answer.{Answer}
+use Rattle.answer.specs.declared.Answer.the-variants as answer
 use Rattle.rows.specs.Rows.{Rows, rowAt, rowsAnswer}
 use Rattle.rows.specs.Rows as rows
 use Rattle.draw.specs.Draw.{Triple, triples, unlessRepeated}

@@ -3,11 +3,11 @@ use mathlib.Core.Bool.{Bool, cond, _&&_}
 use Prim.Native.Nat.{ℕ}
 use lib.Dec.{ltb}
 use lib.Ieee.{Float}
-use Rattle.domain.specs.Answers.{numberOf, first}
+use Rattle.answer.specs.Answers.{numberOf, first}
 use Rattle.domain.specs.Domain.{isFinite, isLimit}
-use Rattle.domain.specs.declared.Refusal.the-variants as refusal
-use Rattle.domain.specs.declared.Answer.{Answer}
-use Rattle.domain.specs.declared.Answer.the-variants as answer
+use Rattle.answer.specs.declared.Refusal.the-variants as refusal
+use Rattle.answer.specs.declared.Answer.{Answer}
+use Rattle.answer.specs.declared.Answer.the-variants as answer
 use Rattle.rows.specs.Rows.{Rows, rowAt, count, rowsAnswer}
 use Rattle.affine.specs.Affine.{fitOf, agreeing}
 use Rattle.affine.specs.declared.Affine.{Affine}

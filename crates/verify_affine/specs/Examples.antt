@@ -6,7 +6,7 @@ use lib.Ieee.{Float, nan, inf, binary64, ofBits, add, sub, mul, div, neg, lt, le
 use mathlib.Core.Bool.{false}
 use Rattle.floats.specs.Magnitude.{magnitudeOf}
 use Rattle.domain.specs.Domain.{every}
-use Rattle.domain.specs.declared.Refusal.the-variants.{Count, Lengths, Value, Place, Degenerate}
+use Rattle.answer.specs.declared.Refusal.the-variants.{Count, Lengths, Value, Place, Degenerate}
 use Rattle.rows.specs.Rows.{Rows, rows, positionRows, rowsAnswer}
 use Rattle.affine.specs.Affine.{areaOf, affineOf, fitOf, determinantOf, inverseOf, missedXi, missedEta, errorSq, nearRows, agreeing}
 use Rattle.affine.specs.declared.Affine.{Affine}

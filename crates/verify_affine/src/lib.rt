@@ -1,8 +1,8 @@
 // The calls on affines: the fit of three rows, and the count of the rows that agree with one.
 use affine::Affine;
 use affine::AffineFit;
-use domain::Answer;
-use domain::Refusal;
+use answer::Answer;
+use answer::Refusal;
 ghost use mathlib.Core.Path.{_≡_};
 ghost use lib.ListN.{length};
 ghost use Rattle.rows.specs.Rows.{rows, rowAt};

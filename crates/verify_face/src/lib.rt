@@ -1,14 +1,14 @@
 // The calls on affines for C: each answers its number, and writes its result into what is lent.
 use affine::Affine;
 use affine::AffineFit;
-use domain::Answer;
-use domain::Refusal;
+use answer::Answer;
+use answer::Refusal;
 use verify::Score;
 use verify_affine::Inliers;
 ghost use mathlib.Core.Path.{_≡_};
 ghost use Prim.Native.Nat.{_≤_};
 ghost use lib.ListN.{length};
-ghost use Rattle.domain.specs.Answers.{answerNumber, roomFor, lentAfter, numberAfter};
+ghost use Rattle.answer.specs.Answers.{answerNumber, roomFor, lentAfter, numberAfter};
 ghost use Rattle.rows.specs.Rows.{rows};
 ghost use Rattle.verify_face.specs.Face.{affineNumbers, affineIn, affineFace, affineWritten, inliersFace, inliersCount};
 ghost use Rattle.verify_face.specs.Face.{scoreFace, scoreCount};
@@ -65,8 +65,8 @@ pub fn fit_affine_3pt(
 {
     match verify_affine::fit_affine_3pt(px, py, xi, eta, a, b, c) {
         AffineFit::Refused(why) => {
-            let room = domain::room_for(6, affine.len());
-            domain::in_turn(why, room).number()
+            let room = answer::room_for(6, affine.len());
+            answer::in_turn(why, room).number()
         }
         AffineFit::Fitted(m) => put_affine(affine, m).number(),
     }

@@ -3,7 +3,7 @@ use borrow.Author.Needs.{needs}
 use mathlib.Core.List.{[]}
 use native.Mathlib.Omega.{arith}
 use lib.Ieee.{binary64, toBits}
-use Rattle.text.proofs.Writing.{length-float-line}
+use Rattle.text.proofs.Lines.{length-float-line}
 use Rattle.cases_floats.proofs.print_float.Statement.{statement}
 use Rattle.cases_floats.proofs.print_float.Tie as tie
 

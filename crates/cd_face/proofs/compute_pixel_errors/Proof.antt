@@ -1,7 +1,7 @@
 -- `cd_face::compute_pixel_errors` meets its contract: six numbers make a CD, and then the inner call decides. Assumes nothing.
 use mathlib.Core.Path.{refl, ap, _∙_}
 use borrow.Author.Tests.{eq-eqb, ne-eqb}
-use Rattle.domain.specs.Answers.{answerNumber}
+use Rattle.answer.specs.Answers.{answerNumber}
 use borrow.Author.Needs.{needs}
 use Rattle.cd_face.proofs.compute_pixel_errors.Statement.{statement}
 use Rattle.cd_face.proofs.compute_pixel_errors.Tie as tie

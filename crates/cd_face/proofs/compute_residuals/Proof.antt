@@ -2,7 +2,7 @@
 use mathlib.Core.Path.{refl, sym, ap, _∙_}
 use borrow.Author.Tests.{eq-eqb, ne-eqb}
 use lib.ListN.{length}
-use Rattle.domain.specs.Answers.{answerNumber}
+use Rattle.answer.specs.Answers.{answerNumber}
 use Rattle.rows.specs.Rows.{rows}
 use Rattle.cd_residuals.specs.Residuals.{foundOf, residualsDone}
 use Rattle.cd_face.proofs.Ended.{refused, found}

@@ -1,8 +1,8 @@
 -- `cd_face::put_fit` meets its contract: a refusal keeps the list, and a CD goes where there is room. Assumes nothing.
 use mathlib.Core.Path.{ap, _∙_}
 use lib.ListN.{length}
-use Rattle.domain.specs.Answers.{answerNumber, roomFor, inTurn}
-use Rattle.domain.proofs.Lent.{stays}
+use Rattle.answer.specs.Answers.{answerNumber, roomFor, inTurn}
+use Rattle.answer.proofs.Lent.{stays}
 use borrow.Author.Needs.{needs}
 use Rattle.cd_face.proofs.put_fit.Statement.{statement}
 use Rattle.cd_face.proofs.put_fit.Tie as tie

@@ -4,7 +4,7 @@ use native.Mathlib.Omega.{arith}
 use mathlib.Core.Path.{refl}
 use borrow.Author.Tests.{lt-ltb, le-ltb}
 use borrow.Author.Needs.{needs}
-use Rattle.domain.proofs.Lent.{front}
+use Rattle.answer.proofs.Lent.{front}
 use Rattle.cd_plate.specs.Six.{cdNumbers}
 use Rattle.cd_plate.proofs.put_cd.Statement.{statement}
 use Rattle.cd_plate.proofs.put_cd.Tie as tie

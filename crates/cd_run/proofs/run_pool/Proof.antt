@@ -6,7 +6,7 @@ use Rattle.cd_run.specs.declared.CdRun.the-variants.{Fitted}
 use Rattle.cd_near.specs.Near.{nearMarks}
 use Rattle.cd_trial.specs.Held.{IsHeld}
 use Rattle.cd_trial.specs.Trial.{modelOf, bestOf}
-use Rattle.domain.specs.Answers.{written}
+use Rattle.answer.specs.Answers.{written}
 use Rattle.rows.specs.Rows.{rows}
 use denote.Ref.{now}
 use native.Mathlib.Omega.{arith}

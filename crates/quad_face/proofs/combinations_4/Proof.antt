@@ -1,5 +1,5 @@
 -- `quad_face::combinations_4` meets its contract: a refusal keeps the list, and the first state goes where there is room. Assumes nothing.
-use Rattle.domain.specs.Answers.{answerNumber}
+use Rattle.answer.specs.Answers.{answerNumber}
 use mathlib.Core.Path.{refl, ap, _∙_}
 use borrow.Author.Needs.{needs}
 use Rattle.quad_face.proofs.combinations_4.Statement.{statement}

@@ -1,7 +1,7 @@
 -- `quad_face::combinations_4_next` meets its contract: a refused state keeps all, and else the step decides. Assumes nothing.
 use Rattle.quad_face.proofs.Laws.{five}
 use native.Mathlib.Omega.{arith}
-use Rattle.domain.specs.Answers.{answerNumber}
+use Rattle.answer.specs.Answers.{answerNumber}
 use mathlib.Core.Path.{refl, ap, _∙_, sym}
 use borrow.Author.Needs.{needs}
 use Rattle.quad_face.proofs.combinations_4_next.Statement.{statement}

@@ -1,5 +1,5 @@
 -- `quad_face::discrete_hash_key_neighbors` meets its contract: the inner call decides. Assumes nothing.
-use Rattle.domain.specs.Answers.{answerNumber}
+use Rattle.answer.specs.Answers.{answerNumber}
 use mathlib.Core.Path.{ap, _∙_}
 use borrow.Author.Needs.{needs}
 use Rattle.quad_face.proofs.discrete_hash_key_neighbors.Statement.{statement}

@@ -1,6 +1,6 @@
 -- `record::put_record` meets its contract: the parts, one after the other, are the record. Assumes nothing.
 use mathlib.Core.Path.{refl}
-use Rattle.text.proofs.Writing.{same-room, same-text}
+use Rattle.put.proofs.Writing.{same-room, same-text}
 use Rattle.record.proofs.Laws.{parts-record}
 use borrow.Author.Needs.{needs}
 use Rattle.record.proofs.put_record.Statement.{statement}

@@ -1,5 +1,5 @@
 -- `sip::fit_into` meets its contract: a fit that is done is copied, and any other leaves the lists. Assumes nothing.
-use Rattle.domain.specs.declared.Answer.the-variants as answer
+use Rattle.answer.specs.declared.Answer.the-variants as answer
 use native.Mathlib.Omega.{arith}
 use Rattle.sip.proofs.Ending.{copied}
 use Rattle.sip.specs.Call.{coefficientsA, coefficientsB, answerOf}

@@ -1,6 +1,6 @@
 -- `sip_face::put_sip` meets its contract: three stores from the front are what is written. Assumes nothing.
 use Rattle.sip_face.specs.Face.{sumsOf}
-use Rattle.domain.proofs.Lent.{front}
+use Rattle.answer.proofs.Lent.{front}
 use lib.ListN.{length-set}
 use native.Mathlib.Omega.{arith}
 use mathlib.Core.Path.{refl}

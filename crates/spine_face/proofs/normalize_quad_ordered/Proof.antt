@@ -1,8 +1,8 @@
 -- `spine_face::normalize_quad_ordered` meets its contract: a refusal keeps both lists, and a quad goes where there is room. Assumes nothing.
 use Rattle.spine_face.specs.Face.{quadRoom}
 use lib.ListN.{length}
-use Rattle.domain.proofs.Lent.{stays}
-use Rattle.domain.specs.Answers.{answerNumber, inTurn}
+use Rattle.answer.proofs.Lent.{stays}
+use Rattle.answer.specs.Answers.{answerNumber, inTurn}
 use mathlib.Core.Path.{ap, _∙_}
 use borrow.Author.Needs.{needs}
 use Rattle.spine_face.proofs.normalize_quad_ordered.Statement.{statement}

@@ -1,5 +1,5 @@
 -- `spine_face::put_four` meets its contract: a list without room stays, and four stores from the front are what is written. Assumes nothing.
-use Rattle.domain.proofs.Lent.{front}
+use Rattle.answer.proofs.Lent.{front}
 use mathlib.Core.List.{[], _∷_}
 use lib.ListN.{length-set}
 use native.Mathlib.Omega.{arith}

@@ -1,5 +1,5 @@
 -- `spine_face::put_hash` meets its contract: four stores from the front are what is written. Assumes nothing.
-use Rattle.domain.proofs.Lent.{front}
+use Rattle.answer.proofs.Lent.{front}
 use Rattle.spine_face.specs.Face.{hashNumbers}
 use lib.ListN.{length-set}
 use native.Mathlib.Omega.{arith}

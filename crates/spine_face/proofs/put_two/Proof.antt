@@ -1,5 +1,5 @@
 -- `spine_face::put_two` meets its contract: a list without room stays, and two stores from the front are what is written. Assumes nothing.
-use Rattle.domain.proofs.Lent.{front}
+use Rattle.answer.proofs.Lent.{front}
 use mathlib.Core.List.{[], _∷_}
 use mathlib.Core.Path.{refl}
 use borrow.Author.Tests.{lt-ltb, le-ltb}

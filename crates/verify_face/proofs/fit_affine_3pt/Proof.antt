@@ -1,8 +1,8 @@
 -- `verify_face::fit_affine_3pt` meets its contract: a refusal keeps the list, and an affine goes where there is room. Assumes nothing.
 use mathlib.Core.Path.{ap, _∙_}
 use lib.ListN.{length}
-use Rattle.domain.specs.Answers.{answerNumber, roomFor, inTurn}
-use Rattle.domain.proofs.Lent.{stays}
+use Rattle.answer.specs.Answers.{answerNumber, roomFor, inTurn}
+use Rattle.answer.proofs.Lent.{stays}
 use borrow.Author.Needs.{needs}
 use Rattle.verify_face.proofs.fit_affine_3pt.Statement.{statement}
 use Rattle.verify_face.proofs.fit_affine_3pt.Tie as tie

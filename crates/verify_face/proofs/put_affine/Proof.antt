@@ -4,7 +4,7 @@ use native.Mathlib.Omega.{arith}
 use mathlib.Core.Path.{refl}
 use borrow.Author.Tests.{lt-ltb, le-ltb}
 use borrow.Author.Needs.{needs}
-use Rattle.domain.proofs.Lent.{front}
+use Rattle.answer.proofs.Lent.{front}
 use Rattle.verify_face.specs.Face.{affineNumbers}
 use Rattle.verify_face.proofs.put_affine.Statement.{statement}
 use Rattle.verify_face.proofs.put_affine.Tie as tie
