@@ -13,7 +13,7 @@ fn print_answer(number: u32, list: &[f64]) {
 }
 
 fn call_fit(px: &[f64], py: &[f64], xi: &[f64], eta: &[f64], mask: &[u8], cd: &mut [f64]) {
-    let number = cd_face::fit_cd_matrix_6(px, py, xi, eta, mask, cd);
+    let number = fit_face::fit_cd_matrix_6(px, py, xi, eta, mask, cd);
     print_answer(number, cd);
 }
 
@@ -41,7 +41,7 @@ fn call_weighted(
     weights: &[f64],
     cd: &mut [f64],
 ) {
-    let number = cd_face::fit_cd_weighted(px, py, xi, eta, mask, weights, cd);
+    let number = fit_face::fit_cd_weighted(px, py, xi, eta, mask, weights, cd);
     print_answer(number, cd);
 }
 
@@ -71,7 +71,7 @@ fn call_errors(
     cd: &[f64],
     errors: &mut [f64],
 ) {
-    let number = cd_face::compute_pixel_errors(px, py, xi, eta, mask, cd, errors);
+    let number = errors_face::compute_pixel_errors(px, py, xi, eta, mask, cd, errors);
     print_answer(number, errors);
 }
 
@@ -103,7 +103,7 @@ fn call_residuals(
     err_px: &mut [f64],
 ) {
     let mut residuals = 0xa5a5a5a5a5a5a5a5u64;
-    let number = cd_face::compute_residuals(
+    let number = errors_face::compute_residuals(
         px,
         py,
         xi,
@@ -158,7 +158,7 @@ fn rms_error(s: &[u8], at: usize) {
     let mut errors = [0.0; 101];
     let n = cases::floats_at(s, at, &mut errors);
     let mut rms = scan::of_bits(0xa5a5a5a5a5a5a5a5);
-    let number = cd_face::rms_error(&errors[..n], &mut rms);
+    let number = errors_face::rms_error(&errors[..n], &mut rms);
     print_rms(number, rms);
 }
 
@@ -168,12 +168,12 @@ fn weighted_rms_error(s: &[u8], at: usize) {
     let n = cases::floats_at(s, at, &mut errors);
     let m = cases::floats_at(s, cases::field(s, at, 1), &mut weights);
     let mut rms = scan::of_bits(0xa5a5a5a5a5a5a5a5);
-    let number = cd_face::weighted_rms_error(&errors[..n], &weights[..m], &mut rms);
+    let number = errors_face::weighted_rms_error(&errors[..n], &weights[..m], &mut rms);
     print_rms(number, rms);
 }
 
 fn call_solve(a: &[f64], b: &[f64], n: u32, x: &mut [f64]) {
-    let number = cd_face::solve_normal_equations(a, b, n, x);
+    let number = fit_face::solve_normal_equations(a, b, n, x);
     print_answer(number, x);
 }
 

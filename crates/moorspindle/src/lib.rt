@@ -25,9 +25,10 @@ ghost use Rattle.record_face.specs.Face.{solutionIn, recordFace};
 ghost use Rattle.cd_fit.specs.Fit.{fitAnswer};
 ghost use Rattle.cd_normal.specs.Normal.{normalSolved, unknownsOf, normalAnswer};
 ghost use Rattle.cd_residuals.specs.Residuals.{residualsX, residualsY, residualsPx, foundOf};
-ghost use Rattle.cd_face.specs.Face.{fitFace, fitWritten, weightedFit, errorsFace, errorsWritten, residualsFace, valueAfter, rmsFace, rmsValue};
+ghost use Rattle.fit_face.specs.Face.{fitFace, fitWritten, weightedFit};
+ghost use Rattle.errors_face.specs.Face.{errorsFace, errorsWritten, residualsFace, valueAfter, rmsFace, rmsValue};
 ghost use Rattle.wcs.specs.Wcs.{wcsIn};
-ghost use Rattle.cd_face.specs.Face.{weightedFace, weightedValue};
+ghost use Rattle.errors_face.specs.Face.{weightedFace, weightedValue};
 ghost use Rattle.sip_sums.specs.Field.{field};
 ghost use Rattle.sip.specs.Call.{sipA, sipB};
 ghost use Rattle.sip_face.specs.Face.{usedIn, sumsIn, sipTold, sipFace};
@@ -406,7 +407,7 @@ pub extern "C" fn moorspindle_fit_cd_matrix_6(
         (fitWritten (fitAnswer (rows (now (px .entry)) (now (py .entry)) (now (xi .entry)) (now (eta .entry))) (now (mask .entry))))
         (now (cd .entry)) ⌝ }
 {
-    cd_face::fit_cd_matrix_6(px, py, xi, eta, mask, cd)
+    fit_face::fit_cd_matrix_6(px, py, xi, eta, mask, cd)
 }
 
 #[no_mangle]
@@ -425,7 +426,7 @@ pub extern "C" fn moorspindle_fit_cd_weighted(
         (fitWritten (weightedFit (rows (now (px .entry)) (now (py .entry)) (now (xi .entry)) (now (eta .entry))) (now (mask .entry)) (now (weights .entry))))
         (now (cd .entry)) ⌝ }
 {
-    cd_face::fit_cd_weighted(px, py, xi, eta, mask, weights, cd)
+    fit_face::fit_cd_weighted(px, py, xi, eta, mask, weights, cd)
 }
 
 #[no_mangle]
@@ -445,7 +446,7 @@ pub extern "C" fn moorspindle_compute_pixel_errors(
         (errorsWritten (rows (now (px .entry)) (now (py .entry)) (now (xi .entry)) (now (eta .entry))) (now (mask .entry)) (now (cd .entry)))
         (now (errors .entry)) ⌝ }
 {
-    cd_face::compute_pixel_errors(px, py, xi, eta, mask, cd, errors)
+    errors_face::compute_pixel_errors(px, py, xi, eta, mask, cd, errors)
 }
 
 // The CD run over a mask, with whether it was tested and how many rows are on.
@@ -528,7 +529,7 @@ pub extern "C" fn moorspindle_compute_residuals(
         (foundOf (wcsIn (now (wcs .entry))) (length (now (px .entry))))
         (now (residuals .entry)) ⌝ }
 {
-    cd_face::compute_residuals(px, py, xi, eta, wcs, x, y, all, residuals)
+    errors_face::compute_residuals(px, py, xi, eta, wcs, x, y, all, residuals)
 }
 
 #[no_mangle]
@@ -536,7 +537,7 @@ pub extern "C" fn moorspindle_rms_error(errors: &[f64], rms: &mut f64) -> u32
     ensures number { λ r. ⌜ r ≡ answerNumber (rmsFace (now (errors .entry))) ⌝ }
     ensures rms { λ r. ⌜ now (rms .exit) ≡ valueAfter (rmsFace (now (errors .entry))) (rmsValue (now (errors .entry))) (now (rms .entry)) ⌝ }
 {
-    cd_face::rms_error(errors, rms)
+    errors_face::rms_error(errors, rms)
 }
 
 #[no_mangle]
@@ -551,7 +552,7 @@ pub extern "C" fn moorspindle_weighted_rms_error(
         (weightedValue (now (errors .entry)) (now (weights .entry)))
         (now (rms .entry)) ⌝ }
 {
-    cd_face::weighted_rms_error(errors, weights, rms)
+    errors_face::weighted_rms_error(errors, weights, rms)
 }
 
 #[no_mangle]
@@ -567,7 +568,7 @@ pub extern "C" fn moorspindle_solve_normal_equations(
         (unknownsOf (normalSolved (now (a .entry)) (now (b .entry)) n))
         (now (x .entry)) ⌝ }
 {
-    cd_face::solve_normal_equations(a, b, n, x)
+    fit_face::solve_normal_equations(a, b, n, x)
 }
 
 // ---- SIP

@@ -6,7 +6,7 @@ use lib.Dec.{ltb}
 use lib.Ieee.{Float}
 use Rattle.answer.specs.declared.Answer.{Answer}
 use Rattle.rows.specs.Rows.{Rows}
-use Rattle.cd_face.specs.Face.{ofSix}
+use Rattle.errors_face.specs.Face.{ofSix}
 use Rattle.wcs.specs.Wcs.{wcsIn}
 use Rattle.sip_terms.specs.declared.Sip.{Sip}
 use Rattle.sip_sums.specs.Field.{Field, field}

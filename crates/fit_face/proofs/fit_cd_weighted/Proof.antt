@@ -1,7 +1,7 @@
--- `cd_face::fit_cd_weighted` meets its contract: the fit is put where there is room. Assumes nothing.
+-- `fit_face::fit_cd_weighted` meets its contract: the fit is put where there is room. Assumes nothing.
 use borrow.Author.Needs.{needs}
-use Rattle.cd_face.proofs.fit_cd_weighted.Statement.{statement}
-use Rattle.cd_face.proofs.fit_cd_weighted.Tie as tie
+use Rattle.fit_face.proofs.fit_cd_weighted.Statement.{statement}
+use Rattle.fit_face.proofs.fit_cd_weighted.Tie as tie
 
 fit-cd-weighted-requires : tie.Need-fit-cd-weighted-requires
 fit-cd-weighted-requires c κs = search needs

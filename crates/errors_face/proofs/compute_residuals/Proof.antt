@@ -1,14 +1,14 @@
--- `cd_face::compute_residuals` meets its contract: six numbers make a WCS, and then the inner call decides. Assumes nothing.
+-- `errors_face::compute_residuals` meets its contract: six numbers make a WCS, and then the inner call decides. Assumes nothing.
 use mathlib.Core.Path.{refl, sym, ap, _∙_}
 use borrow.Author.Tests.{eq-eqb, ne-eqb}
 use lib.ListN.{length}
 use Rattle.answer.specs.Answers.{answerNumber}
 use Rattle.rows.specs.Rows.{rows}
 use Rattle.cd_residuals.specs.Residuals.{foundOf, residualsDone}
-use Rattle.cd_face.proofs.Ended.{refused, found}
+use Rattle.errors_face.proofs.Ended.{refused, found}
 use borrow.Author.Needs.{needs}
-use Rattle.cd_face.proofs.compute_residuals.Statement.{statement}
-use Rattle.cd_face.proofs.compute_residuals.Tie as tie
+use Rattle.errors_face.proofs.compute_residuals.Statement.{statement}
+use Rattle.errors_face.proofs.compute_residuals.Tie as tie
 
 few-rows-requires : tie.Need-few-rows-requires
 few-rows-requires c κs = search needs

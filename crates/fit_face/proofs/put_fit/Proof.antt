@@ -1,11 +1,11 @@
--- `cd_face::put_fit` meets its contract: a refusal keeps the list, and a CD goes where there is room. Assumes nothing.
+-- `fit_face::put_fit` meets its contract: a refusal keeps the list, and a CD goes where there is room. Assumes nothing.
 use mathlib.Core.Path.{ap, _∙_}
 use lib.ListN.{length}
 use Rattle.answer.specs.Answers.{answerNumber, roomFor, inTurn}
 use Rattle.answer.proofs.Lent.{stays}
 use borrow.Author.Needs.{needs}
-use Rattle.cd_face.proofs.put_fit.Statement.{statement}
-use Rattle.cd_face.proofs.put_fit.Tie as tie
+use Rattle.fit_face.proofs.put_fit.Statement.{statement}
+use Rattle.fit_face.proofs.put_fit.Tie as tie
 
 enum-known-fit : tie.Need-enum-known-fit
 enum-known-fit c = search needs

@@ -1,40 +1,22 @@
--- What the solvers answer and write when the result goes into what is lent. Definitions only.
+-- What errors, residuals and their root mean squares answer and write when the result goes into what is lent. Definitions only.
 use mathlib.Core.Bool.{Bool, cond}
-use mathlib.Core.List.{List, []}
+use mathlib.Core.List.{List}
 use Prim.Native.Nat.{ℕ}
 use lib.Dec.{eqb}
 use lib.ListN.{length}
 use lib.Ieee.{Float, nan}
-use Rattle.answer.specs.Answers.{roomFor, inTurn}
 use Rattle.answer.specs.declared.Refusal.the-variants as refusal
 use Rattle.answer.specs.declared.Answer.{Answer}
 use Rattle.answer.specs.declared.Answer.the-variants as answer
 use Rattle.rows.specs.Rows.{Rows, fewRows}
 use Rattle.cd_plate.specs.Masked.{fewMasked}
-use Rattle.cd_plate.specs.Six.{cdIn, cdNumbers}
-use Rattle.cd_fit.specs.declared.CdFit.{CdFit}
-use Rattle.cd_fit.specs.declared.CdFit.the-variants as fit
-use Rattle.cd_fit.specs.Fit as weights
+use Rattle.cd_plate.specs.Six.{cdIn}
 use Rattle.cd_errors.specs.Errors.{errorsAnswer, pixelErrors}
 use Rattle.wcs.specs.Wcs.{wcsIn}
 use Rattle.cd_residuals.specs.Residuals.{residualsDone}
 use Rattle.cd_rms.specs.declared.Rms.{Rms}
 use Rattle.cd_rms.specs.declared.Rms.the-variants as rms
 use Rattle.cd_rms.specs.Rms.{rmsAnswer, weightedAnswer}
-
--- what a fit comes to in a list of so many places: numbers 1, 2 and 3, then 7 below 6 places, then 8
-abbrev pub fitFace : CdFit → ℕ → Answer
-fitFace (fit.Plate m) room = roomFor 6 room
-fitFace (fit.Refused why) room = inTurn why (roomFor 6 room)
-
--- the numbers of a fit; a refusal has none
-abbrev pub fitWritten : CdFit → List Float
-fitWritten (fit.Plate m) = cdNumbers m
-fitWritten (fit.Refused why) = []
-
--- the weighted fit
-abbrev pub weightedFit : Rows → List ℕ → List Float → CdFit
-weightedFit = weights.weightedAnswer
 
 -- an answer where a list that is read has six numbers; else number 1 where there are too many rows, and then number 2
 abbrev pub ofSix : List Float → Bool → Answer → Answer

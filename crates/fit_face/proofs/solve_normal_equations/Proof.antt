@@ -1,7 +1,7 @@
--- `cd_face::solve_normal_equations` meets its contract, which is that of the function it calls. Assumes nothing.
+-- `fit_face::solve_normal_equations` meets its contract, which is that of the function it calls. Assumes nothing.
 use borrow.Author.Needs.{needs}
-use Rattle.cd_face.proofs.solve_normal_equations.Statement.{statement}
-use Rattle.cd_face.proofs.solve_normal_equations.Tie as tie
+use Rattle.fit_face.proofs.solve_normal_equations.Statement.{statement}
+use Rattle.fit_face.proofs.solve_normal_equations.Tie as tie
 
 solve-normal-equations-requires : tie.Need-solve-normal-equations-requires
 solve-normal-equations-requires c κs = search needs

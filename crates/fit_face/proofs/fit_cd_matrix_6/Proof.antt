@@ -1,7 +1,7 @@
--- `cd_face::fit_cd_matrix_6` meets its contract: the fit is put where there is room. Assumes nothing.
+-- `fit_face::fit_cd_matrix_6` meets its contract: the fit is put where there is room. Assumes nothing.
 use borrow.Author.Needs.{needs}
-use Rattle.cd_face.proofs.fit_cd_matrix_6.Statement.{statement}
-use Rattle.cd_face.proofs.fit_cd_matrix_6.Tie as tie
+use Rattle.fit_face.proofs.fit_cd_matrix_6.Statement.{statement}
+use Rattle.fit_face.proofs.fit_cd_matrix_6.Tie as tie
 
 fit-cd-matrix-6-requires : tie.Need-fit-cd-matrix-6-requires
 fit-cd-matrix-6-requires c κs = search needs

@@ -1,10 +1,10 @@
--- `cd_face::compute_pixel_errors` meets its contract: six numbers make a CD, and then the inner call decides. Assumes nothing.
+-- `errors_face::compute_pixel_errors` meets its contract: six numbers make a CD, and then the inner call decides. Assumes nothing.
 use mathlib.Core.Path.{refl, ap, _∙_}
 use borrow.Author.Tests.{eq-eqb, ne-eqb}
 use Rattle.answer.specs.Answers.{answerNumber}
 use borrow.Author.Needs.{needs}
-use Rattle.cd_face.proofs.compute_pixel_errors.Statement.{statement}
-use Rattle.cd_face.proofs.compute_pixel_errors.Tie as tie
+use Rattle.errors_face.proofs.compute_pixel_errors.Statement.{statement}
+use Rattle.errors_face.proofs.compute_pixel_errors.Tie as tie
 
 few-masked-requires : tie.Need-few-masked-requires
 few-masked-requires c κs = search needs
