@@ -20,9 +20,11 @@ use Rattle.cd_clip.specs.declared.Clipped.the-variants as clipped
 use Rattle.cd_clip.specs.Clip.{roundOf, ended, clipFrom, clipTests, sigmaClip}
 use Rattle.floats.specs.Floor.{floorOf}
 use Rattle.domain.specs.Domain.{every}
+use Rattle.quad_stars.specs.Stars.{starAt, fourAt, distSq, placesOf, starsAnswer, placesAnswer, fourAnswer}
 use Rattle.quad_spine.specs.declared.Spine.the-variants as spine
-use Rattle.quad_spine.specs.declared.Normal.the-variants as normal
-use Rattle.quad_spine.specs.Spine.{starAt, fourAt, distSq, longer, longest, inOrder, oriented, spineOf, placesOf, along, across, cFirst, hashOf, leastScale, normalOf, starsAnswer, placesAnswer, fourAnswer, spineAnswer, normalAnswer}
+use Rattle.quad_spine.specs.Spine.{longer, longest, inOrder, oriented, spineOf, spineAnswer}
+use Rattle.quad_normal.specs.declared.Normal.the-variants as normal
+use Rattle.quad_normal.specs.Normal.{along, across, cFirst, hashOf, leastScale, normalOf, normalAnswer}
 use Rattle.quad_key.specs.declared.Hash.{Hash}
 use Rattle.quad_key.specs.Key.{laneOf, keyOf, neighbourKey}
 use Rattle.sip_terms.specs.Terms.{termAt, valueTo, valueOf}

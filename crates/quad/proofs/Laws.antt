@@ -14,7 +14,7 @@ use Rattle.answer.specs.declared.Refusal.the-variants as refusal
 use Rattle.answer.specs.declared.Answer.the-variants as answer
 use Rattle.answer.specs.Answers.{first}
 use Rattle.answer.proofs.Passed.{passed, both, neither}
-use Rattle.quad_spine.specs.Spine.{starsAnswer}
+use Rattle.quad_stars.specs.Stars.{starsAnswer}
 use Rattle.quad_visit.specs.Visit.{visited}
 use Rattle.quad_visit.proofs.Laws.{rest}
 use Rattle.quad.specs.declared.Tried.{Tried}

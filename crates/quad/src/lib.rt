@@ -1,9 +1,9 @@
 // The quads of a list of stars: each set of four near stars, once.
 use answer::Answer;
 use answer::Refusal;
-use quad_spine::Four;
-use quad_spine::Quad;
-use quad_spine::Scaled;
+use quad_normal::Quad;
+use quad_normal::Scaled;
+use quad_stars::Four;
 ghost use mathlib.Core.Path.{_≡_};
 ghost use Prim.Native.Nat.{_+_, _<_, _≤_};
 ghost use lib.ListN.{length, take};
@@ -31,10 +31,10 @@ enum Tried {
 fn four_of(xs: &[f64], ys: &[f64], s: u32) -> Four
     ensures { λ r. ⌜ r ≡ fourOf (now (xs .entry)) (now (ys .entry)) s ⌝ }
 {
-    let p = quad_spine::star_at(xs, ys, (s / 16777216 % 256) as u8);
-    let q = quad_spine::star_at(xs, ys, (s / 65536 % 256) as u8);
-    let r = quad_spine::star_at(xs, ys, (s / 256 % 256) as u8);
-    let t = quad_spine::star_at(xs, ys, (s % 256) as u8);
+    let p = quad_stars::star_at(xs, ys, (s / 16777216 % 256) as u8);
+    let q = quad_stars::star_at(xs, ys, (s / 65536 % 256) as u8);
+    let r = quad_stars::star_at(xs, ys, (s / 256 % 256) as u8);
+    let t = quad_stars::star_at(xs, ys, (s % 256) as u8);
     quad_spine::spine_of(p, q, r, t)
 }
 
@@ -42,10 +42,10 @@ fn four_of(xs: &[f64], ys: &[f64], s: u32) -> Four
 fn tried_of(least: f64, f: Four) -> Tried
     ensures { λ r. ⌜ r ≡ triedOf least f ⌝ }
 {
-    if quad_spine::dist_sq(f.a, f.b) < least {
+    if quad_stars::dist_sq(f.a, f.b) < least {
         return Tried::Short;
     }
-    match quad_spine::normalize(f) {
+    match quad_normal::normalize(f) {
         Scaled::Hash(quad) => Tried::Kept(quad),
         Scaled::Degenerate => Tried::Degenerate,
     }
@@ -139,7 +139,7 @@ fn check_input(xs: &[f64], ys: &[f64], k: usize, least: f64) -> Answer
     if MOST_NEIGHBOURS < k {
         return Answer::Refused(Refusal::Count);
     }
-    match quad_spine::check_stars(xs, ys) {
+    match quad_stars::check_stars(xs, ys) {
         Answer::Refused(why) => Answer::Refused(why),
         Answer::Done => {
             if domain::is_limit(least) {

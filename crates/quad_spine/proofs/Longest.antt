@@ -2,11 +2,12 @@
 use mathlib.Core.Path.{_≡_, refl, sym, _∙_}
 use mathlib.Core.Bool.{Bool, true, false, cond, true≢false}
 use lib.Ieee.{Float, lt}
-use Rattle.quad_spine.specs.declared.Star.{Star}
-use Rattle.quad_spine.specs.declared.Four.{Four}
-use Rattle.quad_spine.specs.Spine.{four, distSq, longer, longest, inOrder, oriented, spineOf}
+use Rattle.quad_stars.specs.declared.Star.{Star}
+use Rattle.quad_stars.specs.declared.Four.{Four}
+use Rattle.quad_stars.specs.Stars.{four, distSq}
+use Rattle.quad_stars.proofs.Turned.{turned}
+use Rattle.quad_spine.specs.Spine.{longer, longest, inOrder, oriented, spineOf}
 use Rattle.quad_spine.proofs.Order.{lt-trans, lt-irrefl}
-use Rattle.quad_spine.proofs.Turned.{turned}
 
 -- the squared distance of the first two stars
 abbrev pub spanOf : Four → Float

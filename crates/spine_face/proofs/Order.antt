@@ -11,9 +11,10 @@ use Rattle.domain.specs.Domain.{isPosition, every}
 use Rattle.answer.specs.declared.Refusal.the-variants as refusal
 use Rattle.answer.specs.declared.Answer.{Answer}
 use Rattle.answer.specs.declared.Answer.the-variants as answer
-use Rattle.quad_spine.specs.declared.Scaled.{Scaled}
-use Rattle.quad_spine.specs.declared.Scaled.the-variants as scaled
-use Rattle.quad_spine.specs.Spine.{starsAnswer, placesAnswer, fourAnswer, fourAt, normalOf, normalAfter, normalAnswer}
+use Rattle.quad_stars.specs.Stars.{starsAnswer, placesAnswer, fourAnswer, fourAt}
+use Rattle.quad_normal.specs.declared.Scaled.{Scaled}
+use Rattle.quad_normal.specs.declared.Scaled.the-variants as scaled
+use Rattle.quad_normal.specs.Normal.{normalOf, normalAfter, normalAnswer}
 use Rattle.spine_face.specs.Face.{quadRoom, normalDone, normalFace}
 
 -- done, or refused by a number below 7

@@ -4,7 +4,9 @@ use mathlib.Core.List.{List, [], _∷_}
 use lib.Ieee.{Float, binary64, ofBits, neg, mul, add, sub, lt, eq, le}
 use Rattle.answer.specs.Answers.{answerNumber, lentAfter}
 use Rattle.domain.specs.Domain.{every}
-use Rattle.quad_spine.specs.Spine.{starAt, fourAt, distSq, longer, longest, inOrder, oriented, spineOf, placesOf, leastScale, normalOf, starsAnswer, placesAnswer, fourAnswer, spineAnswer, normalAnswer}
+use Rattle.quad_stars.specs.Stars.{starAt, fourAt, distSq, placesOf, starsAnswer, placesAnswer, fourAnswer}
+use Rattle.quad_spine.specs.Spine.{longer, longest, inOrder, oriented, spineOf, spineAnswer}
+use Rattle.quad_normal.specs.Normal.{leastScale, normalOf, normalAnswer}
 use Rattle.spine_face.specs.Face.{spineFace, spineWritten, normalFace}
 
 -- 0.0

@@ -5,15 +5,16 @@ use lib.Ieee.{Float}
 use Rattle.answer.specs.Answers.{first, roomFor, inTurn}
 use Rattle.answer.specs.declared.Answer.{Answer}
 use Rattle.answer.specs.declared.Answer.the-variants as answer
-use Rattle.quad_spine.specs.declared.Star.{Star}
+use Rattle.quad_stars.specs.declared.Star.{Star}
 use Rattle.quad_spine.specs.declared.Spine.{Spine}
 use Rattle.quad_spine.specs.declared.Spine.the-variants as spine
 use Rattle.quad_spine.specs.declared.Oriented.{Oriented}
 use Rattle.quad_spine.specs.declared.Oriented.the-variants as turned
-use Rattle.quad_spine.specs.declared.Normal.{Normal}
-use Rattle.quad_spine.specs.declared.Normal.the-variants as normal
-use Rattle.quad_spine.specs.declared.Quad.{Quad}
-use Rattle.quad_spine.specs.Spine.{spineAnswer, orientAnswer, normalAnswer}
+use Rattle.quad_spine.specs.Spine.{spineAnswer, orientAnswer}
+use Rattle.quad_normal.specs.declared.Normal.{Normal}
+use Rattle.quad_normal.specs.declared.Normal.the-variants as normal
+use Rattle.quad_normal.specs.declared.Quad.{Quad}
+use Rattle.quad_normal.specs.Normal.{normalAnswer}
 
 -- whether a spine was found
 abbrev pub spineDone : Spine → Answer

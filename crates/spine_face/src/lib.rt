@@ -1,11 +1,11 @@
 // The spine calls for C: each answers its number, and writes its result into lent lists.
 use answer::Answer;
 use answer::Refusal;
-use quad_spine::Normal;
+use quad_normal::Normal;
+use quad_normal::Quad;
 use quad_spine::Oriented;
-use quad_spine::Quad;
 use quad_spine::Spine;
-use quad_spine::Star;
+use quad_stars::Star;
 ghost use mathlib.Core.Path.{_≡_};
 ghost use mathlib.Core.List.{[], _∷_};
 ghost use Prim.Native.Nat.{_≤_};
@@ -147,7 +147,7 @@ pub fn normalize_quad_ordered(
         (placesWritten (now (xs .entry)) (now (ys .entry)) a b c d)
         (now (places .entry)) ⌝ }
 {
-    match quad_spine::normalize_quad_ordered(xs, ys, a, b, c, d) {
+    match quad_normal::normalize_quad_ordered(xs, ys, a, b, c, d) {
         Normal::Refused(why) => {
             let room = quad_room(hash.len(), places.len());
             answer::in_turn(why, room).number()
