@@ -8,8 +8,9 @@ use lib.Dec.{ltb}
 use lib.Ieee.{Float}
 use borrow.Author.Tests.{lt-ltb, le-ltb}
 use Rattle.answer.specs.declared.Refusal.the-variants as refusal
-use Rattle.elimination.specs.Elimination.{Matrix, cells, eliminated, unknowns, Solved, solution}
-use Rattle.elimination.specs.Holds.{Agrees}
+use Rattle.elimination_rows.specs.Matrix.{Matrix, cells}
+use Rattle.elimination.specs.Elimination.{eliminated, unknowns, Solved, solution}
+use Rattle.elimination.specs.Agrees.{Agrees}
 use Rattle.elimination.specs.declared.Eliminated.{Eliminated}
 use Rattle.elimination.specs.declared.Eliminated.the-variants as ended
 use Rattle.elimination.proofs.Alike.{Alike}

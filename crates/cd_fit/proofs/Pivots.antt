@@ -9,7 +9,8 @@ use lib.Ieee.{Float, nan}
 use Rattle.rows.specs.Rows.{Rows, rowAt}
 use Rattle.rows.specs.declared.Row.{Row}
 use Rattle.cd_plate.specs.Masked.{isOn}
-use Rattle.elimination.specs.Elimination.{cells, pivotOf, Singular}
+use Rattle.elimination_rows.specs.Matrix.{cells, pivotOf}
+use Rattle.elimination.specs.Elimination.{Singular}
 use Rattle.elimination.proofs.Alike.{Alike, own}
 use Rattle.elimination.proofs.Solved.{before, same-pivot, same-pivot-number, same-stop}
 use Rattle.cd_sums.specs.Sums.{Nine, xiOf, etaOf, withRow, withWeighted, stepIf, sumsTo, plainStep, weightedStep, plainSums, weightedSums}

@@ -7,7 +7,8 @@ use Rattle.floats.specs.Magnitude.{magnitudeOf}
 use Rattle.domain.specs.Domain.{every}
 use Rattle.answer.specs.declared.Refusal.the-variants.{Count, Lengths, Value, Degenerate}
 use Rattle.rows.specs.Rows.{Rows, rows, positionRows}
-use Rattle.elimination.specs.Elimination.{pivotRow, eliminateFrom, rowLess, unknownsTo}
+use Rattle.elimination_rows.specs.Matrix.{pivotRow}
+use Rattle.elimination.specs.Elimination.{eliminateFrom, rowLess, unknownsTo}
 use Rattle.cd_plate.specs.declared.Cd.{Cd}
 use Rattle.cd_plate.specs.Plate.{nothing, determinantOf}
 use Rattle.cd_sums.specs.Sums.{unit, sumsTo}

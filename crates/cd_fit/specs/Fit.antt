@@ -12,7 +12,8 @@ use Rattle.answer.specs.declared.Refusal.the-variants as refusal
 use Rattle.answer.specs.declared.Answer.{Answer}
 use Rattle.answer.specs.declared.Answer.the-variants as answer
 use Rattle.rows.specs.Rows.{Rows, count}
-use Rattle.elimination.specs.Elimination.{cells, Solved, Unknowns, Singular, solution}
+use Rattle.elimination_rows.specs.Matrix.{cells}
+use Rattle.elimination.specs.Elimination.{Solved, Unknowns, Singular, solution}
 use Rattle.cd_plate.specs.declared.Cd.{Cd}
 use Rattle.cd_plate.specs.Plate.{leastDeterminant, determinantOf}
 use Rattle.cd_plate.specs.Masked.{fewMasked, evenMasked, goodMasked}

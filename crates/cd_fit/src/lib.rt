@@ -7,7 +7,8 @@ use elimination::Eliminated;
 ghost use mathlib.Core.Path.{_≡_};
 ghost use lib.ListN.{length};
 ghost use Rattle.rows.specs.Rows.{rows};
-ghost use Rattle.elimination.specs.Elimination.{cells, unknowns};
+ghost use Rattle.elimination_rows.specs.Matrix.{cells};
+ghost use Rattle.elimination.specs.Elimination.{unknowns};
 ghost use Rattle.cd_sums.specs.Both.{xiPart, etaPart};
 ghost use Rattle.cd_fit.specs.Fit.{plateIn, plateFit, fitOf, fitNumber, maskedAnswer, weighedAnswer, fitAnswer, weightedAnswer};
 

@@ -14,8 +14,10 @@ use Rattle.answer.specs.Answers.{roomFor, written}
 use Rattle.answer.specs.declared.Refusal.the-variants.{Count, Lengths, Room}
 use Rattle.answer.specs.declared.Answer.the-variants.{Done, Refused}
 use Rattle.answer.proofs.Passed.{passed}
-use Rattle.elimination.specs.Elimination.{cells, eliminated, unknowns, Solved, Unknowns, Singular}
-use Rattle.elimination.specs.Holds.{Holds, Agrees}
+use Rattle.elimination_rows.specs.Matrix.{cells}
+use Rattle.elimination_rows.specs.Holds.{Holds}
+use Rattle.elimination.specs.Elimination.{eliminated, unknowns, Solved, Unknowns, Singular}
+use Rattle.elimination.specs.Agrees.{Agrees}
 use Rattle.elimination.specs.declared.Eliminated.{Eliminated}
 use Rattle.elimination.proofs.Solved.{solved, singular, solution-held}
 use Rattle.elimination.proofs.Alike.{unknowns-long}

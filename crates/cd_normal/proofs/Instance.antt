@@ -5,7 +5,7 @@ use mathlib.Core.Path.{_≡_}
 use mathlib.Core.List.{List}
 use lib.ListN.{getD}
 use lib.Ieee.{Float, nan}
-use Rattle.elimination.specs.Elimination.{cells}
+use Rattle.elimination_rows.specs.Matrix.{cells}
 use Rattle.elimination.specs.Instances.{Apart, solveApart}
 use Rattle.elimination.proofs.Instances.{apart}
 use Rattle.cd_normal.specs.Normal.{normalSolved}

@@ -10,10 +10,10 @@ use lib.ListN.{length, getD, set, take, drop, length-drop, length-append, drop-o
 use lib.Seq.{getD-take, getD-drop, getD-at, set-at, drop-cons, length-take-le}
 use lib.Ieee.{Float, nan}
 use borrow.Author.Tests.{ltb-true, ltb-false, eqb-true, lt-ltb, le-ltb, le-leb}
-use Rattle.elimination.specs.Elimination.{Matrix, cells}
-use Rattle.elimination.specs.Holds.{Holds}
-use Rattle.elimination.proofs.Flat.{in-row, tail-at}
-use Rattle.elimination.proofs.Turns.{upTo, other-below}
+use Rattle.elimination_rows.specs.Matrix.{Matrix, cells}
+use Rattle.elimination_rows.specs.Holds.{Holds}
+use Rattle.elimination_rows.proofs.Flat.{in-row, tail-at}
+use Rattle.elimination_rows.proofs.Turns.{upTo, other-below}
 use Rattle.cd_normal.specs.Normal.{system}
 
 pub last-put : (to new from : List Float) (v : Float) → length to ≡ length from + 1 → new ≡ from → set (new ++ drop (length from) to) (length from) v ≡ from ++ (v ∷ [])

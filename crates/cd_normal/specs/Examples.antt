@@ -7,7 +7,8 @@ use lib.Ieee.{Float, binary64, ofBits, ofInt, mul, sub, div, lt}
 use Rattle.floats.specs.Magnitude.{magnitudeOf}
 use Rattle.answer.specs.declared.Refusal.the-variants.{Count, Lengths, Room, Degenerate}
 use Rattle.answer.specs.declared.Answer.the-variants.{Done, Refused}
-use Rattle.elimination.specs.Elimination.{pivotRow, eliminateFrom, rowLess, unknownsTo, Unknowns}
+use Rattle.elimination_rows.specs.Matrix.{pivotRow}
+use Rattle.elimination.specs.Elimination.{eliminateFrom, rowLess, unknownsTo, Unknowns}
 use Rattle.cd_normal.specs.Normal.{normalSolved, testsAnswer, normalAnswer}
 
 -- a whole number as a float

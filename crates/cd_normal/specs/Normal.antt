@@ -9,7 +9,8 @@ use Rattle.answer.specs.Answers.{first, roomFor}
 use Rattle.answer.specs.declared.Refusal.the-variants.{Count, Lengths, Degenerate}
 use Rattle.answer.specs.declared.Answer.{Answer}
 use Rattle.answer.specs.declared.Answer.the-variants.{Done, Refused}
-use Rattle.elimination.specs.Elimination.{Matrix, cells, Solved, Unknowns, Singular, solution}
+use Rattle.elimination_rows.specs.Matrix.{Matrix, cells}
+use Rattle.elimination.specs.Elimination.{Solved, Unknowns, Singular, solution}
 
 -- n rows: a matrix given row by row, with its right side in column n
 abbrev pub system : List Float → List Float → ℕ → Matrix

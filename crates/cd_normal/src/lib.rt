@@ -7,7 +7,7 @@ ghost use mathlib.Core.List.{[], _∷_, _++_};
 ghost use Prim.Native.Nat.{_+_, _*_, _≤_};
 ghost use lib.ListN.{length};
 ghost use Rattle.answer.specs.Answers.{lentAfter};
-ghost use Rattle.elimination.specs.Holds.{Holds};
+ghost use Rattle.elimination_rows.specs.Holds.{Holds};
 ghost use Rattle.cd_normal.specs.Normal.{system, normalSolved, solvedAnswer, unknownsOf, testsAnswer, normalAnswer};
 
 // The most unknowns.
@@ -24,7 +24,7 @@ fn put_row(to: &mut [f64], from: &[f64], last: f64)
     ensures { λ _. ⌜ now (to .exit) ≡ now (from .entry) ++ (last ∷ []) ⌝ }
 {
     let n = from.len();
-    elimination::copy_row(&mut to[..n], from);
+    elimination_rows::copy_row(&mut to[..n], from);
     to[n] = last;
 }
 

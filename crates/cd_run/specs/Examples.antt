@@ -11,7 +11,8 @@ use Rattle.answer.specs.declared.Refusal.the-variants.{Count, Lengths, Value, R
 use Rattle.rows.specs.Rows.{Rows, rows, positionRows}
 use Rattle.draw.specs.Draw.{nextWord, tripleAfter, triples}
 use Rattle.draw.specs.Best.{improved, keepIf, keep, run}
-use Rattle.elimination.specs.Elimination.{pivotRow, eliminateFrom, rowLess, unknownsTo}
+use Rattle.elimination_rows.specs.Matrix.{pivotRow}
+use Rattle.elimination.specs.Elimination.{eliminateFrom, rowLess, unknownsTo}
 use Rattle.cd_plate.specs.Plate.{nothing, determinantOf, inverseOf, squareOf}
 use Rattle.cd_pool.specs.Pool.{greatest, leastOf, placesFrom, poolOf}
 use Rattle.cd_mask.specs.Marks.{marks, ones}

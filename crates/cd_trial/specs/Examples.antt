@@ -7,7 +7,8 @@ use lib.Ieee.{ofBits, add, sub, mul, div, neg, lt, le, eq}
 use Rattle.floats.specs.Magnitude.{magnitudeOf}
 use Rattle.rows.specs.Rows.{Rows, rows}
 use Rattle.draw.specs.Draw.{nextWord, tripleAfter, triples}
-use Rattle.elimination.specs.Elimination.{pivotRow, eliminateFrom, rowLess, unknownsTo}
+use Rattle.elimination_rows.specs.Matrix.{pivotRow}
+use Rattle.elimination.specs.Elimination.{eliminateFrom, rowLess, unknownsTo}
 use Rattle.cd_plate.specs.declared.Cd.{Cd}
 use Rattle.cd_plate.specs.Plate.{nothing, determinantOf}
 use Rattle.cd_mask.specs.Marks.{marks}

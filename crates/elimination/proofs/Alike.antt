@@ -10,7 +10,9 @@ use lib.ListN.{length}
 use lib.Ieee.{Float, binary64, mul, sub, lt}
 use borrow.Author.Tests.{ltb-true, ltb-false, le-leb}
 use Rattle.floats.specs.Magnitude.{magnitudeOf}
-use Rattle.elimination.specs.Elimination.{Matrix, least, pivotRow, pivotOf, swapped, reduced, column, Ended, Reduced, Stopped, pick, eliminateFrom, rowLess, unknownsTo}
+use Rattle.elimination_rows.specs.Matrix.{Matrix, pivotRow, pivotOf, swapped, reduced}
+use Rattle.elimination_rows.proofs.Turns.{partner}
+use Rattle.elimination.specs.Elimination.{least, column, Ended, Reduced, Stopped, pick, eliminateFrom, rowLess, unknownsTo}
 
 abbrev pub Alike : ℕ → ℕ → (ℕ → ℕ) → Matrix → Matrix → Type 0
 Alike n w f m g = (r c : ℕ) → r < n → c < w → g r c ≡ m r (f c)
@@ -38,10 +40,6 @@ pivot-in m col (suc k) = go (lt (magnitudeOf (m (pivotRow m col k) col)) (magnit
 
 pub pivot-below : (m : Matrix) (n col : ℕ) → col < n → pivotOf m n col < n
 pivot-below m n col h = omega (arith, pivot-in m col (n - (col + 1)))
-
--- the row that stands at r after a swap
-abbrev pub partner : ℕ → ℕ → ℕ → ℕ
-partner a b r = cond (eqb r a) b (cond (eqb r b) a r)
 
 partner-below : (n a b r : ℕ) → a < n → b < n → r < n → partner a b r < n
 partner-below n a b r h g k = go (eqb r a) (eqb r b)

@@ -6,8 +6,10 @@ use mathlib.Core.List.{List}
 use native.Mathlib.Omega.{arith}
 use lib.Ieee.{Float, lt}
 use Rattle.floats.specs.Magnitude.{magnitudeOf}
-use Rattle.elimination.specs.Elimination.{Matrix, cells, least, pivotOf, swapped, reduced, column, Ended, Reduced, Stopped, eliminateFrom}
-use Rattle.elimination.specs.Holds.{Holds, Agrees}
+use Rattle.elimination_rows.specs.Matrix.{Matrix, cells, pivotOf, swapped, reduced}
+use Rattle.elimination_rows.specs.Holds.{Holds}
+use Rattle.elimination.specs.Elimination.{least, column, Ended, Reduced, Stopped, eliminateFrom}
+use Rattle.elimination.specs.Agrees.{Agrees}
 use Rattle.elimination.specs.Steps.{Cleared}
 use Rattle.elimination.proofs.Alike.{Same, own, tested, from-none, from-more, from-alike, reduced-alike, same-through}
 use Rattle.elimination.specs.declared.Eliminated.the-variants as answer

@@ -8,9 +8,11 @@ use lib.Dec.{ltb, leb}
 use lib.ListN.{length}
 use lib.Ieee.{binary64, mul, sub, div}
 use borrow.Author.Tests.{ltb-false, lt-ltb, le-ltb, le-leb}
-use Rattle.elimination.specs.Elimination.{Matrix, pivotOf, column, Ended, Reduced, Stopped, pick, eliminateFrom, eliminated, rowLess, unknownsTo, Singular, solvedBy, solution}
+use Rattle.elimination_rows.specs.Matrix.{Matrix, pivotOf}
+use Rattle.elimination_rows.proofs.Turns.{partner}
+use Rattle.elimination.specs.Elimination.{column, Ended, Reduced, Stopped, pick, eliminateFrom, eliminated, rowLess, unknownsTo, Singular, solvedBy, solution}
 use Rattle.elimination.specs.Instances.{threeBy, Apart, columnApart, unknownsApart, pickSolved, solveApart, joined}
-use Rattle.elimination.proofs.Alike.{Alike, own, partner, tested, from-none, from-more, pivot-alike, row-alike, unknowns-long}
+use Rattle.elimination.proofs.Alike.{Alike, own, tested, from-none, from-more, pivot-alike, row-alike, unknowns-long}
 use Rattle.elimination.proofs.Solved.{from-solved}
 
 pub three : (m : Matrix) → solution m 3 3 ≡ threeBy (eliminated m 3)

@@ -8,8 +8,10 @@ use native.Mathlib.Omega.{arith}
 use lib.Dec.{ltb}
 use lib.Ieee.{Float}
 use borrow.Author.Tests.{lt-ltb, le-ltb}
-use Rattle.elimination.specs.Elimination.{Matrix, cells, pivotOf, column, Ended, Reduced, Stopped, eliminateFrom, eliminated, unknowns, Unknowns, Singular, solvedBy, solution, alone}
-use Rattle.elimination.specs.Holds.{Holds, Agrees}
+use Rattle.elimination_rows.specs.Matrix.{Matrix, cells, pivotOf}
+use Rattle.elimination_rows.specs.Holds.{Holds}
+use Rattle.elimination.specs.Elimination.{column, Ended, Reduced, Stopped, eliminateFrom, eliminated, unknowns, Unknowns, Singular, solvedBy, solution, alone}
+use Rattle.elimination.specs.Agrees.{Agrees}
 use Rattle.elimination.proofs.Alike.{Alike, Same, own, pivot-alike, column-alike, from-alike, unknowns-alike}
 use Rattle.elimination.specs.declared.Eliminated.the-variants as answer
 

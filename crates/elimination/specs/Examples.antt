@@ -3,9 +3,10 @@ use Prim.Native.Nat.{ℕ}
 use mathlib.Core.Path.{_≡_, refl}
 use mathlib.Core.List.{List, [], _∷_}
 use lib.IntN.{pos}
-use lib.Ieee.{Float, nan, binary64, ofBits, ofInt, neg, mul, sub, div, lt}
+use lib.Ieee.{Float, nan, binary64, ofBits, ofInt, mul, sub, div, lt}
 use Rattle.floats.specs.Magnitude.{magnitudeOf}
-use Rattle.elimination.specs.Elimination.{cells, least, pivotRow, pivotOf, eliminateFrom, rowLess, unknownsTo, Unknowns, Singular, solution}
+use Rattle.elimination_rows.specs.Matrix.{cells, pivotRow}
+use Rattle.elimination.specs.Elimination.{least, eliminateFrom, rowLess, unknownsTo, Unknowns, Singular, solution}
 
 -- a whole number as a float
 abbrev f : ℕ → Float
@@ -27,11 +28,6 @@ first-axis = refl
 second-axis : solution (cells axes 5) 3 4 ≡ Unknowns (f 3 ∷ f 1 ∷ f 1 ∷ [])
 unfolding ofBits ofInt mul sub div lt magnitudeOf pivotRow eliminateFrom rowLess unknownsTo
 second-axis = refl
-
--- of two rows of one magnitude the first is the pivot's
-first-of-equals : pivotOf (cells (neg (f 2) ∷ f 2 ∷ []) 1) 2 0 ≡ 0
-unfolding ofInt neg lt magnitudeOf pivotRow
-first-of-equals = refl
 
 -- a pivot of exactly 1e-30 stops at its column, and the next f64 does not
 at-least : solution (cells (f 1 ∷ f 0 ∷ f 0 ∷ f 0 ∷ least ∷ f 0 ∷ []) 3) 2 2 ≡ Singular 1

@@ -1,5 +1,5 @@
 pub mod Elimination
-pub mod Holds
+pub mod Agrees
 pub mod Steps
 pub mod Instances
 pub mod Examples

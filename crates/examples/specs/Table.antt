@@ -8,7 +8,8 @@ use Rattle.floats.specs.Root.{rootOf}
 use Rattle.floats.specs.Magnitude.{magnitudeOf}
 use Rattle.floats.specs.Power.{powerOf}
 use Rattle.rows.specs.Rows.{Rows, rows, positionRows}
-use Rattle.elimination.specs.Elimination.{cells, pivotRow, eliminateFrom, rowLess, unknownsTo, Unknowns, solution}
+use Rattle.elimination_rows.specs.Matrix.{cells, pivotRow}
+use Rattle.elimination.specs.Elimination.{eliminateFrom, rowLess, unknownsTo, Unknowns, solution}
 use Rattle.cd_plate.specs.declared.Cd.{Cd}
 use Rattle.cd_plate.specs.Plate.{determinantOf, isCd, inverseOf, squareOf}
 use Rattle.cd_plate.specs.Filled.{filled}

@@ -173,8 +173,8 @@ fn fit_into(
     match fit_terms(px, py, xi, eta, snr, wcs, n, x, y) {
         SipFit::Refused(why) => SipFit::Refused(why),
         SipFit::Fitted(sip) => {
-            elimination::copy_row(&mut a[..n], x);
-            elimination::copy_row(&mut b[..n], y);
+            elimination_rows::copy_row(&mut a[..n], x);
+            elimination_rows::copy_row(&mut b[..n], y);
             SipFit::Fitted(sip)
         }
     }

@@ -7,7 +7,7 @@ use lib.Ieee.{Float, nan}
 use Rattle.rows.specs.Rows.{Rows, count}
 use Rattle.cd_plate.specs.Filled.{filled}
 use Rattle.wcs.specs.declared.Wcs.{Wcs}
-use Rattle.elimination.specs.Elimination.{cells}
+use Rattle.elimination_rows.specs.Matrix.{cells}
 use Rattle.sip_terms.specs.Terms.{valueOf}
 use Rattle.sip_terms.proofs.Told.{filled-at, filled-same}
 use Rattle.sip_sums.specs.Field.{offsetAt}

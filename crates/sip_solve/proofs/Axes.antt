@@ -11,8 +11,10 @@ use borrow.Author.Tests.{ltb-true, lt-ltb, le-ltb, eq-eqb, ne-eqb}
 use Rattle.answer.specs.declared.Refusal.the-variants as refusal
 use Rattle.rows.specs.Rows.{count}
 use Rattle.cd_mask.specs.Marks.{ones}
-use Rattle.elimination.specs.Elimination.{Matrix, cells, eliminated, unknowns, Solved, solution}
-use Rattle.elimination.specs.Holds.{Holds, Agrees}
+use Rattle.elimination_rows.specs.Matrix.{Matrix, cells}
+use Rattle.elimination_rows.specs.Holds.{Holds}
+use Rattle.elimination.specs.Elimination.{eliminated, unknowns, Solved, solution}
+use Rattle.elimination.specs.Agrees.{Agrees}
 use Rattle.elimination.specs.declared.Eliminated.{Eliminated}
 use Rattle.elimination.specs.declared.Eliminated.the-variants as ended
 use Rattle.elimination.proofs.Alike.{Alike}

@@ -6,7 +6,8 @@ use lib.ListN.{length}
 use lib.Ieee.{Float}
 use Rattle.answer.specs.declared.Refusal.the-variants as refusal
 use Rattle.cd_mask.specs.Marks.{ones}
-use Rattle.elimination.specs.Elimination.{Matrix, solution}
+use Rattle.elimination_rows.specs.Matrix.{Matrix}
+use Rattle.elimination.specs.Elimination.{solution}
 use Rattle.sip_sums.specs.Steps.{sumsIn}
 use Rattle.sip_solve.specs.Solve.{Coefficients, None, bothAxes, pickCoefficients}
 

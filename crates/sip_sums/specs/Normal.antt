@@ -8,7 +8,7 @@ use Rattle.rows.specs.Rows.{count}
 use Rattle.floats.specs.Rounded.{_⊕_, _⊗_}
 use Rattle.cd_plate.specs.Plate.{nothing}
 use Rattle.cd_plate.specs.Masked.{isOn}
-use Rattle.elimination.specs.Elimination.{Matrix}
+use Rattle.elimination_rows.specs.Matrix.{Matrix}
 use Rattle.sip_terms.specs.Terms.{basisOf}
 use Rattle.sip_sums.specs.declared.Offset.{Offset}
 use Rattle.sip_sums.specs.Field.{Field, offsetAt, weightAt}

@@ -9,10 +9,10 @@ use lib.ListN.{length, set}
 use lib.Ieee.{Float}
 use borrow.Author.Tests.{eqb-true, lt-ltb, le-ltb}
 use Rattle.floats.specs.Power.{powerOf}
-use Rattle.elimination.specs.Elimination.{Matrix, cells}
-use Rattle.elimination.specs.Holds.{Holds}
-use Rattle.elimination.proofs.Flat.{in-cell, cell-set}
-use Rattle.elimination.proofs.Turns.{other-below}
+use Rattle.elimination_rows.specs.Matrix.{Matrix, cells}
+use Rattle.elimination_rows.specs.Holds.{Holds}
+use Rattle.elimination_rows.proofs.Flat.{in-cell, cell-set}
+use Rattle.elimination_rows.proofs.Turns.{other-below}
 use Rattle.sip_values.specs.Values.{withColumn}
 
 -- column k has the powers below p

@@ -12,7 +12,7 @@ use Rattle.floats.specs.Power.{powerOf}
 use Rattle.cd_plate.specs.Plate.{nothing}
 use Rattle.cd_plate.specs.Filled.{filled}
 use Rattle.cd_plate.proofs.Filling.{filled-length}
-use Rattle.elimination.specs.Elimination.{Matrix, cells}
+use Rattle.elimination_rows.specs.Matrix.{Matrix, cells}
 use Rattle.sip_terms.specs.declared.Term.{Term}
 use Rattle.sip_terms.specs.Terms.{termAt, isKept, valueTo}
 use Rattle.sip_terms.proofs.Told.{filled-at, filled-same}

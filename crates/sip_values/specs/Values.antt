@@ -11,8 +11,8 @@ use Rattle.rows.specs.Rows.{Rows, count}
 use Rattle.floats.specs.Rounded.{_⊕_, _⊗_}
 use Rattle.cd_plate.specs.Plate.{nothing}
 use Rattle.wcs.specs.declared.Wcs.{Wcs}
-use Rattle.elimination.specs.Elimination.{Matrix}
-use Rattle.elimination.specs.Holds.{Holds}
+use Rattle.elimination_rows.specs.Matrix.{Matrix}
+use Rattle.elimination_rows.specs.Holds.{Holds}
 use Rattle.sip_terms.specs.declared.Term.{Term}
 use Rattle.sip_terms.specs.Terms.{termAt, withTerm}
 use Rattle.sip_sums.specs.Field.{offsetAt}

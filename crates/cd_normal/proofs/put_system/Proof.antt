@@ -6,10 +6,10 @@ use lib.ListN.{length}
 use borrow.Author.Needs.{needs}
 use Rattle.cd_normal.proofs.System.{rows-none, row-put, rows-all}
 use Rattle.cd_normal.specs.Normal.{system}
-use Rattle.elimination.proofs.Turns.{upTo}
-use Rattle.elimination.proofs.Flat.{in-row}
-use Rattle.elimination.specs.Holds.{Holds}
-use Rattle.elimination.specs.Elimination.{cells}
+use Rattle.elimination_rows.proofs.Turns.{upTo}
+use Rattle.elimination_rows.proofs.Flat.{in-row}
+use Rattle.elimination_rows.specs.Holds.{Holds}
+use Rattle.elimination_rows.specs.Matrix.{cells}
 use Rattle.cd_normal.proofs.put_system.Statement.{statement}
 use Rattle.cd_normal.proofs.put_system.Tie as tie
 

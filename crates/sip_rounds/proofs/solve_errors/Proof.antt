@@ -1,6 +1,6 @@
 use Rattle.sip_solve.proofs.Axes.{solve-lines}
 use Rattle.sip_sums.specs.Field.{field}
-use Rattle.elimination.specs.Elimination.{cells}
+use Rattle.elimination_rows.specs.Matrix.{cells}
 use Rattle.rows.specs.Rows.{rows}
 -- `sip_rounds::solve_errors` meets its contract: the solves decide; where they are done the errors are those of their coefficients. Assumes nothing.
 use native.Mathlib.Omega.{arith}

@@ -4,7 +4,7 @@ use mathlib.Core.Path.{_≡_, _∙_, sym}
 use native.Mathlib.Omega.{arith}
 use lib.ListN.{length, length-replicate}
 use Rattle.cd_plate.specs.Plate.{nothing}
-use Rattle.elimination.specs.Elimination.{cells}
+use Rattle.elimination_rows.specs.Matrix.{cells}
 use Rattle.sip_sums.specs.Steps.{sumsIn}
 use Rattle.sip_solve.proofs.Axes.{axes-solved, axes-stopped}
 use borrow.Author.Needs.{needs}

@@ -2,10 +2,10 @@
 use borrow.Author.Needs.{needs}
 use Rattle.sip_sums.proofs.Adding.{lines-none, lines-more, lines-all}
 use Rattle.sip_sums.specs.Steps.{withLine}
-use Rattle.elimination.proofs.Turns.{upTo}
-use Rattle.elimination.proofs.Flat.{in-row}
-use Rattle.elimination.specs.Holds.{Holds}
-use Rattle.elimination.specs.Elimination.{cells}
+use Rattle.elimination_rows.proofs.Turns.{upTo}
+use Rattle.elimination_rows.proofs.Flat.{in-row}
+use Rattle.elimination_rows.specs.Holds.{Holds}
+use Rattle.elimination_rows.specs.Matrix.{cells}
 use lib.Seq.{length-take-le}
 use lib.ListN.{length, drop, length-drop}
 use native.Mathlib.Omega.{arith}

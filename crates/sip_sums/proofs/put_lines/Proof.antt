@@ -3,10 +3,10 @@ use lib.Seq.{length-take-le}
 use Rattle.sip_sums.proofs.Adding.{put-none, put-more, put-all}
 use Rattle.sip_sums.specs.Steps.{lineAt}
 use Rattle.sip_sums.specs.Field.{offsetAt}
-use Rattle.elimination.proofs.Turns.{upTo}
-use Rattle.elimination.proofs.Flat.{in-row}
-use Rattle.elimination.specs.Holds.{Holds}
-use Rattle.elimination.specs.Elimination.{cells}
+use Rattle.elimination_rows.proofs.Turns.{upTo}
+use Rattle.elimination_rows.proofs.Flat.{in-row}
+use Rattle.elimination_rows.specs.Holds.{Holds}
+use Rattle.elimination_rows.specs.Matrix.{cells}
 use Rattle.rows.specs.Rows.{rows}
 use lib.ListN.{length, drop, length-drop}
 use native.Mathlib.Omega.{arith}

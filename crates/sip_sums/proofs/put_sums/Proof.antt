@@ -2,9 +2,9 @@
 use lib.Seq.{length-take-le}
 use Rattle.sip_sums.proofs.Adding.{sums-none, sums-more}
 use Rattle.sip_sums.specs.Steps.{sumsIn}
-use Rattle.elimination.proofs.Flat.{in-row}
-use Rattle.elimination.specs.Holds.{Holds}
-use Rattle.elimination.specs.Elimination.{cells}
+use Rattle.elimination_rows.proofs.Flat.{in-row}
+use Rattle.elimination_rows.specs.Holds.{Holds}
+use Rattle.elimination_rows.specs.Matrix.{cells}
 use Rattle.cd_plate.specs.Plate.{nothing}
 use lib.ListN.{length, drop, length-drop, length-replicate}
 use native.Mathlib.Omega.{arith}

@@ -1,8 +1,8 @@
 -- `sip_values::add_term` meets its contract: the test decides; the lines that are lent are those of the powers. Assumes nothing.
 use lib.Seq.{length-take-le}
 use Rattle.sip_values.proofs.Summing.{term-skipped, term-added}
-use Rattle.elimination.proofs.Flat.{in-row}
-use Rattle.elimination.specs.Elimination.{cells}
+use Rattle.elimination_rows.proofs.Flat.{in-row}
+use Rattle.elimination_rows.specs.Matrix.{cells}
 use borrow.Author.Tests.{not-true, not-false}
 use lib.ListN.{length, drop, length-drop}
 use native.Mathlib.Omega.{arith}

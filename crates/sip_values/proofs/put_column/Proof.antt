@@ -2,9 +2,9 @@
 use lib.Ieee.{ofBits}
 use Rattle.sip_values.proofs.Columns.{columnTo, column-none, column-more, column-all}
 use Rattle.sip_terms.proofs.Places.{power-more}
-use Rattle.elimination.proofs.Flat.{in-cell}
-use Rattle.elimination.specs.Holds.{Holds}
-use Rattle.elimination.specs.Elimination.{cells}
+use Rattle.elimination_rows.proofs.Flat.{in-cell}
+use Rattle.elimination_rows.specs.Holds.{Holds}
+use Rattle.elimination_rows.specs.Matrix.{cells}
 use Rattle.floats.specs.Power.{powerOf}
 use lib.ListN.{length, length-set}
 use native.Mathlib.Omega.{arith}

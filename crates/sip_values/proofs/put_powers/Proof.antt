@@ -1,8 +1,8 @@
 -- `sip_values::put_powers` meets its contract: after k rows the first k columns of both tables are filled. Assumes nothing.
 use Rattle.sip_values.proofs.Columns.{columnsTo, columns-none, columns-more, columns-all}
 use Rattle.sip_values.specs.Values.{powersU, powersV}
-use Rattle.elimination.specs.Holds.{Holds}
-use Rattle.elimination.specs.Elimination.{cells}
+use Rattle.elimination_rows.specs.Holds.{Holds}
+use Rattle.elimination_rows.specs.Matrix.{cells}
 use Rattle.rows.specs.Rows.{rows}
 use lib.ListN.{length}
 use native.Mathlib.Omega.{arith}

@@ -3,7 +3,7 @@ use Rattle.sip_values.proofs.Summing.{values-none, values-more}
 use Rattle.sip_values.specs.Values.{valueIn}
 use Rattle.sip_terms.proofs.Places.{low-term, term-more}
 use Rattle.sip_terms.specs.Terms.{termAt}
-use Rattle.elimination.specs.Elimination.{cells}
+use Rattle.elimination_rows.specs.Matrix.{cells}
 use Rattle.cd_plate.specs.Filled.{filled}
 use lib.ListN.{length}
 use native.Mathlib.Omega.{arith}

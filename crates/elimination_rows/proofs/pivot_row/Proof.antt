@@ -1,15 +1,15 @@
--- `elimination::pivot_row` meets its contract: the pivot of the rows before r. Assumes nothing.
+-- `elimination_rows::pivot_row` meets its contract: the pivot of the rows before r. Assumes nothing.
 use Prim.Native.Nat.{_+_, _≤_, _<_, _-_}
 use mathlib.Core.Logic.{⊎-elim}
 use mathlib.Core.Path.{_≡_, _∙_, ap}
 use native.Mathlib.Omega.{arith}
 use borrow.Author.Needs.{needs}
 use Rattle.floats.specs.Magnitude.{magnitudeOf}
-use Rattle.elimination.proofs.Turns.{pivot-none, pivot-taken, pivot-left}
-use Rattle.elimination.proofs.Flat.{in-cell}
-use Rattle.elimination.specs.Elimination.{cells, pivotRow}
-use Rattle.elimination.proofs.pivot_row.Statement.{statement}
-use Rattle.elimination.proofs.pivot_row.Tie as tie
+use Rattle.elimination_rows.proofs.Turns.{pivot-none, pivot-taken, pivot-left}
+use Rattle.elimination_rows.proofs.Flat.{in-cell}
+use Rattle.elimination_rows.specs.Matrix.{cells, pivotRow}
+use Rattle.elimination_rows.proofs.pivot_row.Statement.{statement}
+use Rattle.elimination_rows.proofs.pivot_row.Tie as tie
 
 abbrev Inv-loop : tie.InvT-loop
 Inv-loop m n w col row₀ size₀ r₀ row size r = (row ≡ pivotRow (cells m w) col (r - (col + 1))) × (size ≡ magnitudeOf (cells m w row col)) × (row < n) × (col < r) × (r ≤ n)

@@ -10,7 +10,7 @@ use lib.Ieee.{Float, nan, inf, fin, up, down, lt}
 use lib.Ieee.Fits.{down-pos}
 use borrow.Author.Tests.{ltb-true, lt-ltb, le-ltb, eqb-true, eqb-false}
 use Rattle.floats.specs.Magnitude.{magnitudeOf}
-use Rattle.elimination.specs.Elimination.{Matrix, pivotRow}
+use Rattle.elimination_rows.specs.Matrix.{Matrix, pivotRow}
 
 across : (a b c d e g : ℕ) → 0 < d → 0 < e → 0 < g → a * e < b * d → b * g < c * e → a * g < c * d
 across a b c d e g hd he hg p q =

@@ -1,13 +1,13 @@
--- `elimination::subtract` meets its contract: the places below k are done, the others as they were. Assumes nothing.
+-- `elimination_rows::subtract` meets its contract: the places below k are done, the others as they were. Assumes nothing.
 use Prim.Native.Nat.{ℕ, _≤_, _<_, _-_}
 use mathlib.Core.Path.{_≡_}
 use native.Mathlib.Omega.{arith}
 use lib.Ieee.{Float, nan, binary64, sub, mul}
 use lib.ListN.{length, getD, length-set}
 use borrow.Author.Needs.{needs}
-use Rattle.elimination.proofs.Turns.{Front, front-none, front-next, front-more, front-all}
-use Rattle.elimination.proofs.subtract.Statement.{statement}
-use Rattle.elimination.proofs.subtract.Tie as tie
+use Rattle.elimination_rows.proofs.Turns.{Front, front-none, front-next, front-more, front-all}
+use Rattle.elimination_rows.proofs.subtract.Statement.{statement}
+use Rattle.elimination_rows.proofs.subtract.Tie as tie
 
 abbrev Inv-loop : tie.InvT-loop
 Inv-loop row₀ pivot factor k₀ k-end row k = Front k (λ i. sub binary64 (getD row₀ i nan) (mul binary64 factor (getD pivot i nan))) (λ i. getD row₀ i nan) row × (length row ≡ length row₀) × (length pivot ≡ length row₀) × (k ≤ length row₀) × (k-end ≡ length pivot)

@@ -1,14 +1,14 @@
--- `elimination::clear_below` meets its contract: the copy is the tail of row col. Assumes nothing.
+-- `elimination_rows::clear_below` meets its contract: the copy is the tail of row col. Assumes nothing.
 use Prim.Native.Nat.{_+_, _-_, _*_}
 use mathlib.Core.Path.{_≡_, _∙_, ap, sym}
 use native.Mathlib.Omega.{arith}
 use lib.Seq.{length-take-le, take-at}
 use lib.ListN.{length}
 use borrow.Author.Needs.{needs}
-use Rattle.elimination.proofs.Turns.{tail-long}
-use Rattle.elimination.proofs.Flat.{in-row}
-use Rattle.elimination.proofs.clear_below.Statement.{statement}
-use Rattle.elimination.proofs.clear_below.Tie as tie
+use Rattle.elimination_rows.proofs.Turns.{tail-long}
+use Rattle.elimination_rows.proofs.Flat.{in-row}
+use Rattle.elimination_rows.proofs.clear_below.Statement.{statement}
+use Rattle.elimination_rows.proofs.clear_below.Tie as tie
 
 sub-count : tie.Need-sub-count
 sub-count c = search needs

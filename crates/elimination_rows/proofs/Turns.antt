@@ -11,11 +11,10 @@ use lib.Seq.{getD-set-same, getD-set-other, getD-take, getD-drop, length-take-le
 use lib.Ieee.{Float, nan, binary64, mul, sub, div, lt}
 use borrow.Author.Tests.{ltb-true, ltb-false, leb-true, eqb-true, eqb-false, lt-ltb, le-ltb}
 use Rattle.floats.specs.Magnitude.{magnitudeOf}
-use Rattle.elimination.specs.Elimination.{Matrix, cells, pivotRow, swapped, reduced}
-use Rattle.elimination.specs.Holds.{Holds}
-use Rattle.elimination.specs.Steps.{Less, rowReduced}
-use Rattle.elimination.proofs.Flat.{in-cell, in-row, cell-set, tail-at}
-use Rattle.elimination.proofs.Alike.{partner}
+use Rattle.elimination_rows.specs.Matrix.{Matrix, cells, pivotRow, swapped, reduced}
+use Rattle.elimination_rows.specs.Holds.{Holds}
+use Rattle.elimination_rows.specs.Steps.{Less, rowReduced}
+use Rattle.elimination_rows.proofs.Flat.{in-cell, in-row, cell-set, tail-at}
 
 pub other-below : (i k : ℕ) → eqb i k ≡ false → ltb i (k + 1) ≡ ltb i k
 other-below i k e = go (ltb i k) refl
@@ -47,6 +46,10 @@ front-more k f g l v h t e i s = go (eqb i k) refl
 
 pub front-all : (k : ℕ) (f g : ℕ → Float) (l : List Float) → Front k f g l → (i : ℕ) → i < length l → i < k → getD l i nan ≡ f i
 front-all k f g l h i s t = h i s ∙ rw (lt-ltb i k t)
+
+-- the row that stands at r after a swap
+abbrev pub partner : ℕ → ℕ → ℕ → ℕ
+partner a b r = cond (eqb r a) b (cond (eqb r b) a r)
 
 -- rows a and b of m have changed places in the columns below k
 abbrev pub swappedTo : ℕ → Matrix → ℕ → ℕ → Matrix

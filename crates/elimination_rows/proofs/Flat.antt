@@ -10,7 +10,7 @@ use lib.ListN.{length, getD, set, take, drop, List·getD-append}
 use lib.Seq.{getD-set-same, getD-set-other, getD-append-add, getD-take, getD-drop, length-take-le, drop-drop}
 use lib.Ieee.{Float, nan}
 use borrow.Author.Tests.{ltb-true, ltb-false, leb-true, leb-false, eqb-true, eqb-false, lt-ltb, le-ltb, le-leb, lt-leb}
-use Rattle.elimination.specs.Elimination.{cells}
+use Rattle.elimination_rows.specs.Matrix.{cells}
 
 pub in-cell : (n w r c : ℕ) → r < n → c < w → r * w + c < n * w
 in-cell n w r c h k =

@@ -1,15 +1,12 @@
--- What a list holds, and how the answer and the list tell of an elimination's end. Definitions only.
-use Prim.Native.Nat.{ℕ, _<_}
+-- How the answer and the list tell of an elimination's end. Definitions only.
+use Prim.Native.Nat.{ℕ}
 use mathlib.Core.Path.{_≡_}
 use mathlib.Core.List.{List}
 use lib.Ieee.{Float}
-use Rattle.elimination.specs.Elimination.{Matrix, cells, Ended, Reduced, Stopped}
+use Rattle.elimination_rows.specs.Holds.{Holds}
+use Rattle.elimination.specs.Elimination.{Ended, Reduced, Stopped}
 use Rattle.elimination.specs.declared.Eliminated.{Eliminated}
 use Rattle.elimination.specs.declared.Eliminated.the-variants as answer
-
--- the first n rows of the list, w numbers to a row, are those of m
-abbrev pub Holds : List Float → ℕ → ℕ → Matrix → Type 0
-Holds l n w m = (r c : ℕ) → r < n → c < w → cells l w r c ≡ m r c
 
 -- the answer of an elimination that ends so
 abbrev pub answerOf : Ended → Eliminated

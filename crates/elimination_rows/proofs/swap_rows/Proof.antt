@@ -1,15 +1,15 @@
--- `elimination::swap_rows` meets its contract: the columns below k are swapped. Assumes nothing.
+-- `elimination_rows::swap_rows` meets its contract: the columns below k are swapped. Assumes nothing.
 use Prim.Native.Nat.{_≤_, _-_, _*_}
 use mathlib.Core.Path.{_≡_, _∙_}
 use native.Mathlib.Omega.{arith}
 use lib.ListN.{length}
 use borrow.Author.Needs.{needs}
-use Rattle.elimination.proofs.Turns.{swappedTo, swap-none, swap-more, swap-all}
-use Rattle.elimination.proofs.Flat.{in-row}
-use Rattle.elimination.specs.Holds.{Holds}
-use Rattle.elimination.specs.Elimination.{cells}
-use Rattle.elimination.proofs.swap_rows.Statement.{statement}
-use Rattle.elimination.proofs.swap_rows.Tie as tie
+use Rattle.elimination_rows.proofs.Turns.{swappedTo, swap-none, swap-more, swap-all}
+use Rattle.elimination_rows.proofs.Flat.{in-row}
+use Rattle.elimination_rows.specs.Holds.{Holds}
+use Rattle.elimination_rows.specs.Matrix.{cells}
+use Rattle.elimination_rows.proofs.swap_rows.Statement.{statement}
+use Rattle.elimination_rows.proofs.swap_rows.Tie as tie
 
 abbrev Inv-loop : tie.InvT-loop
 Inv-loop m₀ n w a b i j k₀ m k = Holds m n w (swappedTo k (cells m₀ w) a b) × (length m ≡ n * w) × (k ≤ w) × (i ≡ a * w) × (j ≡ b * w)

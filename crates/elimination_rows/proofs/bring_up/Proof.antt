@@ -1,8 +1,8 @@
--- `elimination::bring_up` meets its contract: a row that is its own pivot stays. Assumes nothing.
+-- `elimination_rows::bring_up` meets its contract: a row that is its own pivot stays. Assumes nothing.
 use borrow.Author.Needs.{needs}
-use Rattle.elimination.proofs.Turns.{swap-own}
-use Rattle.elimination.proofs.bring_up.Statement.{statement}
-use Rattle.elimination.proofs.bring_up.Tie as tie
+use Rattle.elimination_rows.proofs.Turns.{swap-own}
+use Rattle.elimination_rows.proofs.bring_up.Statement.{statement}
+use Rattle.elimination_rows.proofs.bring_up.Tie as tie
 
 returns : tie.Need-returns
 returns c = let a = c .before .before .args in swap-own (a .m .now) (a .n) (a .w) (a .col) (a .row) (c .if1 .taken)

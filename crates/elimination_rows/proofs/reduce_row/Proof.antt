@@ -1,12 +1,12 @@
--- `elimination::reduce_row` meets its contract: the tail comes back to its places. Assumes nothing.
+-- `elimination_rows::reduce_row` meets its contract: the tail comes back to its places. Assumes nothing.
 use Prim.Native.Nat.{_+_, _-_, _*_}
 use mathlib.Core.Path.{_≡_}
 use native.Mathlib.Omega.{arith}
 use borrow.Author.Needs.{needs}
-use Rattle.elimination.proofs.Turns.{row-less}
-use Rattle.elimination.proofs.Flat.{in-row}
-use Rattle.elimination.proofs.reduce_row.Statement.{statement}
-use Rattle.elimination.proofs.reduce_row.Tie as tie
+use Rattle.elimination_rows.proofs.Turns.{row-less}
+use Rattle.elimination_rows.proofs.Flat.{in-row}
+use Rattle.elimination_rows.proofs.reduce_row.Statement.{statement}
+use Rattle.elimination_rows.proofs.reduce_row.Tie as tie
 
 mul-from : tie.Need-mul-from
 mul-from c = let a = c .before .before .args in omega (arith, in-row (a .n) (a .w) (a .row) (omega arith))

@@ -1,15 +1,15 @@
--- `elimination::reduce_rows` meets its contract: the rows before `row` are reduced. Assumes nothing.
+-- `elimination_rows::reduce_rows` meets its contract: the rows before `row` are reduced. Assumes nothing.
 use Prim.Native.Nat.{_≤_, _<_, _-_, _*_}
 use mathlib.Core.Path.{_≡_, _∙_}
 use native.Mathlib.Omega.{arith}
 use lib.ListN.{length}
 use borrow.Author.Needs.{needs}
-use Rattle.elimination.proofs.Turns.{tail-read, tail-long, upTo, reduce-none, reduce-more, reduce-all}
-use Rattle.elimination.proofs.Flat.{in-cell}
-use Rattle.elimination.specs.Holds.{Holds}
-use Rattle.elimination.specs.Elimination.{cells, reduced}
-use Rattle.elimination.proofs.reduce_rows.Statement.{statement}
-use Rattle.elimination.proofs.reduce_rows.Tie as tie
+use Rattle.elimination_rows.proofs.Turns.{tail-read, tail-long, upTo, reduce-none, reduce-more, reduce-all}
+use Rattle.elimination_rows.proofs.Flat.{in-cell}
+use Rattle.elimination_rows.specs.Holds.{Holds}
+use Rattle.elimination_rows.specs.Matrix.{cells, reduced}
+use Rattle.elimination_rows.proofs.reduce_rows.Statement.{statement}
+use Rattle.elimination_rows.proofs.reduce_rows.Tie as tie
 
 abbrev Inv-loop : tie.InvT-loop
 Inv-loop m₀ n w col pivot d row₀ m row = Holds m n w (upTo row (reduced (cells m₀ w) col) (cells m₀ w)) × (length m ≡ n * w) × (col < row) × (row ≤ n)
