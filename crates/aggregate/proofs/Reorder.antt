@@ -6,7 +6,7 @@ use native.Mathlib.Omega.{arith}
 use lib.ListN.{length, length-append}
 use Rattle.aggregate_votes.specs.Reorder.{Reordered, same, swap, keep, after}
 use Rattle.aggregate_votes.proofs.Reorder.{missing-same}
-use Rattle.aggregate_choice.specs.declared.Choice.{Choice}
+use Rattle.aggregate_best.specs.declared.Choice.{Choice}
 use Rattle.aggregate_choice.proofs.Reorder.{choice-same, pairs-same}
 use Rattle.aggregate.specs.Extract.{Given, given, Room, idsIn, found, choiceIn, inputAnswer, pairsAnswer}
 

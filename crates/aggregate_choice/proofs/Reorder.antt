@@ -7,8 +7,9 @@ use lib.ListN.{length}
 use Rattle.aggregate_votes.specs.Votes.{Ids, votesOf, votesAt}
 use Rattle.aggregate_votes.specs.Reorder.{Reordered}
 use Rattle.aggregate_votes.proofs.Reorder.{votes-same}
+use Rattle.aggregate_best.proofs.Best.{best-ext}
 use Rattle.aggregate_choice.specs.Choice.{chosenBy, pairsOf}
-use Rattle.aggregate_choice.proofs.Pairs.{best-ext, pairs-ext}
+use Rattle.aggregate_choice.proofs.Pairs.{pairs-ext}
 
 module _ (i : Ids) {ms ns : List ℕ} (o : Reordered ms ns) where
   -- a detection chooses as before

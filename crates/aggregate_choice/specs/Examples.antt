@@ -4,11 +4,12 @@ use mathlib.Core.Path.{_≡_, refl}
 use mathlib.Core.Bool.{cond, _&&_}
 use mathlib.Core.List.{List, [], _∷_}
 use lib.Dec.{eqb}
-use lib.IntN.{ℤ, pos, negsuc}
+use lib.IntN.{ℤ, pos}
 use lib.ListN.{getD}
 use Rattle.aggregate_votes.specs.Votes.{sameId, Ids, ids, votesOf, counts, isFor, votesAt}
-use Rattle.aggregate_choice.specs.declared.Choice.{Choice}
-use Rattle.aggregate_choice.specs.Choice.{idOf, better, choose, best, claim, paired, pairsTo, chosenBy, pairsOf}
+use Rattle.aggregate_best.specs.declared.Choice.{Choice}
+use Rattle.aggregate_best.specs.Best.{idOf, better, choose, best}
+use Rattle.aggregate_choice.specs.Choice.{claim, paired, pairsTo, chosenBy, pairsOf}
 
 -- P12: votes (0,7)=3, (1,7)=2, (1,9)=2: only the pair (0,7)
 abbrev votes12 : ℕ → ℤ → ℕ
@@ -35,11 +36,6 @@ matches12 = 0 ∷ 0 ∷ 0 ∷ 1 ∷ 0 ∷ 0 ∷ 0 ∷ 0 ∷ 1 ∷ 1 ∷ 1 ∷ 25
 p12-matches : pairsOf (ids (0 ∷ 1 ∷ []) results12 results12) (votesOf matches12) 2 ≡ 0 ∷ []
 unfolding pairsOf votesAt votesOf isFor counts better choose claim paired
 p12-matches = refl
-
--- of as many votes the smaller catalogue id is chosen, and -9 is below -8 and 7
-tie : idOf (pos 7 ∷ negsuc 7 ∷ negsuc 8 ∷ []) (best (pos 7 ∷ negsuc 7 ∷ negsuc 8 ∷ []) (λ r. 2) 3) ≡ negsuc 8
-unfolding better choose
-tie = refl
 
 -- where the id 7 stands twice in the results, its last place is chosen
 abbrev repeated : Ids

@@ -32,7 +32,8 @@ use Rattle.sip_terms.specs.Terms.{termAt, valueTo, valueOf}
 use Rattle.cd_pool.specs.Pool.{greatest, leastOf, placesFrom, poolOf}
 use Rattle.draw.specs.Draw.{nextWord}
 use Rattle.aggregate_votes.specs.Votes.{Ids, ids, Vote, votesOf, votesFor, counts, isFor, votesAt}
-use Rattle.aggregate_choice.specs.Choice.{idOf, better, choose, claim, paired, chosenBy, pairsOf}
+use Rattle.aggregate_best.specs.Best.{idOf, better, choose}
+use Rattle.aggregate_choice.specs.Choice.{claim, paired, chosenBy, pairsOf}
 
 -- the float of a pattern
 abbrev float : ℕ → Float

@@ -2,7 +2,7 @@
 use Rattle.aggregate_outputs.proofs.Outputs.{wrote}
 use Rattle.aggregate.proofs.Answer.{long-enough, counted, below}
 use Rattle.aggregate.specs.Extract.{given, room, found, votePairs, choiceIn}
-use Rattle.aggregate_choice.specs.declared.Choice.{Choice}
+use Rattle.aggregate_best.specs.declared.Choice.{Choice}
 use lib.Ieee.{nan}
 use denote.Ref.{now}
 use lib.ListN.{length, getD}

@@ -1,4 +1,4 @@
--- The best has the most votes. Assumes nothing.
+-- The best has the most votes, and equal votes give equal choices. Assumes nothing.
 use Prim.Native.Nat.{ℕ, zero, suc, _≤_, _<_}
 use mathlib.Core.Path.{_≡_, refl}
 use mathlib.Core.Bool.{Bool, true, false, cond, _&&_, _||_}
@@ -9,8 +9,8 @@ use lib.IntN.{ℤ, pos}
 use lib.ListN.{getD}
 use lib.Signed.{ltZ}
 use borrow.Author.Tests.{eqb-true, eqb-false, ltb-true, ltb-false}
-use Rattle.aggregate_choice.specs.declared.Choice.{Choice}
-use Rattle.aggregate_choice.specs.Choice.{idOf, better, choose, best}
+use Rattle.aggregate_best.specs.declared.Choice.{Choice}
+use Rattle.aggregate_best.specs.Best.{idOf, better, choose, best}
 
 -- a choice never loses votes, and has at least those of the result that was looked at
 choose-most : (results : List ℤ) (c : Choice) (r v : ℕ) → (c .votes ≤ choose results c r v .votes) × (v ≤ choose results c r v .votes)
@@ -35,3 +35,8 @@ best-most results w (suc k) r h = go (eqb r k) (eqb-true r k) (eqb-false r k) (c
         → (r < k → w r ≤ best results w k .votes) → w r ≤ best results w (suc k) .votes
     go true y n m i = rw (y refl) (m .1)
     go false y n m i = let e = i (omega (arith, n refl)) in omega (arith, m .0)
+
+-- equal votes give equal choices
+pub best-ext : (results : List ℤ) (v w : ℕ → ℕ) (n : ℕ) → ((r : ℕ) → r < n → v r ≡ w r) → best results v n ≡ best results w n
+best-ext results v w zero e = refl
+best-ext results v w (suc r) e = rw (best-ext results v w r (λ k h. e k (omega arith)), e r (omega arith))
