@@ -51,7 +51,7 @@ fn answer(s: &[u8], at: usize) {
         return;
     }
     if let Place::Next(p) = scan::read_bytes(s, at, b"root ") {
-        print_float(floats::root(float_at(s, p)));
+        print_float(root::root(float_at(s, p)));
         return;
     }
     if let Place::Next(p) = scan::read_bytes(s, at, b"power ") {

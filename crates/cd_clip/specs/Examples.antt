@@ -3,8 +3,8 @@ use mathlib.Core.Path.{_≡_, refl}
 use mathlib.Core.List.{[], _∷_}
 use lib.ListN.{replicate}
 use lib.Ieee.{Float, nan, binary64, ofBits, ofInt, add, sub, mul, div, neg, lt, le, eq}
-use Rattle.floats.specs.Root.{rootOf}
 use Rattle.floats.specs.Magnitude.{magnitudeOf}
+use Rattle.root.specs.Root.{rootOf}
 use Rattle.domain.specs.Domain.{every}
 use Rattle.answer.specs.declared.Refusal.the-variants.{Count, Lengths, Value}
 use Rattle.rows.specs.Rows.{Rows, rows, positionRows}

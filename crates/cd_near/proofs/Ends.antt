@@ -2,8 +2,8 @@
 use mathlib.Core.Path.{_≡_, refl}
 use mathlib.Core.Bool.{true, false, and-eq-true-iff}
 use lib.Ieee.{Float, nan, inf, fin, binary64, ofBits, le, lt, eq}
-use Rattle.floats.specs.Root.{rootOf}
 use Rattle.floats.proofs.Tests.{clash}
+use Rattle.root.specs.Root.{rootOf}
 use Rattle.domain.specs.Domain.{zero, greatest, isLimit}
 use Rattle.cd_near.specs.Reach.{infinity, isWithin}
 

@@ -5,8 +5,8 @@ use Prim.Native.Nat.{ℕ}
 use lib.Dec.{T}
 use lib.Ieee.{Float, binary64, fits, le, lt}
 use lib.Ieee.Fits.{add-fits}
-use Rattle.floats.proofs.Squares.{squares}
-use Rattle.floats.proofs.Threshold.{threshold}
+use Rattle.root.proofs.Squares.{squares}
+use Rattle.root.proofs.Threshold.{threshold}
 use Rattle.rows.specs.Rows.{Rows, rowAt}
 use Rattle.rows.specs.declared.Row.{Row}
 use Rattle.cd_plate.specs.declared.Inverse.{Inverse}

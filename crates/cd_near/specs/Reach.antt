@@ -3,7 +3,8 @@ use mathlib.Core.Path.{_≡_}
 use mathlib.Core.Bool.{Bool, true, false}
 use Prim.Native.Nat.{ℕ}
 use lib.Ieee.{Float, binary64, ofBits, le}
-use Rattle.floats.specs.Root.{rootOf, nextUp}
+use Rattle.floats.specs.Patterns.{nextUp}
+use Rattle.root.specs.Root.{rootOf}
 use Rattle.cd_near.specs.declared.Reach.{Reach}
 
 -- the pattern of the infinity

@@ -23,7 +23,7 @@ fn is_within(limit: f64, bits: u64) -> bool
     requires { ⌜ bits ≤ infinity ⌝ }
     ensures { λ r. ⌜ r ≡ isWithin limit bits ⌝ }
 {
-    floats::root(f64::from_bits(bits)) <= limit
+    root::root(f64::from_bits(bits)) <= limit
 }
 
 // The pattern of the limit's square, where the search starts; any below the infinity's would do.

@@ -2,7 +2,7 @@
 use mathlib.Core.Bool.{Bool, _&&_}
 use lib.Ieee.{Float, binary64, ofBits, neg}
 use Rattle.floats.specs.Rounded.{_⊕_, _⊖_, _⊗_, _⊘_}
-use Rattle.floats.specs.Root.{rootOf}
+use Rattle.root.specs.Root.{rootOf}
 use Rattle.domain.specs.Domain.{isFinite}
 use Rattle.rows.specs.declared.Row.{Row}
 use Rattle.cd_plate.specs.declared.Cd.{Cd}

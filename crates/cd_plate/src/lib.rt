@@ -109,7 +109,7 @@ impl Inverse {
     pub fn error(self, row: Row) -> f64
         ensures { λ r. ⌜ r ≡ errorOf self row ⌝ }
     {
-        floats::root(self.square(row))
+        root::root(self.square(row))
     }
 }
 

@@ -45,7 +45,7 @@ fn residual_of(wcs: Wcs, v: Inverse, row: Row) -> Residual
 {
     let x = row.px - (v.i00 * row.xi + v.i01 * row.eta + wcs.crpix1);
     let y = row.py - (v.i10 * row.xi + v.i11 * row.eta + wcs.crpix2);
-    let px = floats::root(x * x + y * y);
+    let px = root::root(x * x + y * y);
     Residual { x, y, px }
 }
 

@@ -3,7 +3,7 @@ use mathlib.Core.Path.{_≡_, refl}
 use mathlib.Core.List.{[], _∷_}
 use lib.ListN.{replicate}
 use lib.Ieee.{Float, nan, binary64, ofBits, ofInt, add, mul, div, lt}
-use Rattle.floats.specs.Root.{rootOf}
+use Rattle.root.specs.Root.{rootOf}
 use Rattle.answer.specs.declared.Refusal.the-variants.{Count, Lengths}
 use Rattle.cd_rms.specs.declared.Rms.the-variants as rms
 use Rattle.cd_rms.specs.Rms.{nothing, squaresTo, rmsOf, rmsAnswer, weightedTo, weightedOf, weightedAnswer}

@@ -6,7 +6,7 @@ use lib.Dec.{ltb, eqb}
 use lib.IntN.{pos}
 use lib.ListN.{length, getD}
 use lib.Ieee.{Float, nan, binary64, ofBits, ofInt, add, mul, div, lt}
-use Rattle.floats.specs.Root.{rootOf}
+use Rattle.root.specs.Root.{rootOf}
 use Rattle.answer.specs.Answers.{numberOf}
 use Rattle.answer.specs.declared.Refusal.the-variants as refusal
 use Rattle.cd_rms.specs.declared.Rms.{Rms}

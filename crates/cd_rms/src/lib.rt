@@ -47,7 +47,7 @@ fn rms_of(errors: &[f64]) -> f64
     if n == 0 {
         return 0.0;
     }
-    floats::root(sum_squares(errors) / (n as u32) as f64)
+    root::root(sum_squares(errors) / (n as u32) as f64)
 }
 
 // The root mean square of errors.
@@ -104,7 +104,7 @@ fn weighted_of(errors: &[f64], weights: &[f64]) -> f64
 {
     let s = sum_weighted(errors, weights);
     if s.w > 0.0 {
-        return floats::root(s.we2 / s.w);
+        return root::root(s.we2 / s.w);
     }
     0.0
 }

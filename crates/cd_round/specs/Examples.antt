@@ -3,7 +3,7 @@ use mathlib.Core.Path.{_≡_, refl}
 use mathlib.Core.Bool.{true, false}
 use mathlib.Core.List.{List, [], _∷_}
 use lib.Ieee.{Float, nan, binary64, ofBits, ofInt, add, mul, div, lt}
-use Rattle.floats.specs.Root.{rootOf}
+use Rattle.root.specs.Root.{rootOf}
 use Rattle.cd_plate.specs.Filled.{filled}
 use Rattle.cd_round.specs.declared.Clip.{Clip}
 use Rattle.cd_round.specs.Round.{rootsOf, squaresTo, clipOf, anyRejected, maskLeft}

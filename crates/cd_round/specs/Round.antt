@@ -5,8 +5,8 @@ use Prim.Native.Nat.{ℕ, zero, suc}
 use lib.IntN.{pos}
 use lib.ListN.{length, getD}
 use lib.Ieee.{Float, nan, binary64, ofBits, ofInt, lt}
-use Rattle.floats.specs.Root.{rootOf}
 use Rattle.floats.specs.Rounded.{_⊕_, _⊗_, _⊘_}
+use Rattle.root.specs.Root.{rootOf}
 use Rattle.cd_plate.specs.Plate.{nothing}
 use Rattle.cd_plate.specs.Masked.{isOn}
 use Rattle.cd_plate.specs.Filled.{filled}

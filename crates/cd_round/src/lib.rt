@@ -27,7 +27,7 @@ impl Clip {
         ensures { λ r. ⌜ r ≡ clipOf sum on ⌝ }
     {
         Clip {
-            limit: Clip::FACTOR * floats::root(sum / (on as u32) as f64),
+            limit: Clip::FACTOR * root::root(sum / (on as u32) as f64),
         }
     }
 
@@ -45,7 +45,7 @@ pub fn put_roots(weights: &[f64], roots: &mut [f64])
     ensures { λ _. ⌜ now (roots .exit) ≡ written (rootsOf (now (weights .entry))) (now (roots .entry)) ⌝ }
 {
     for i in 0..weights.len() {
-        roots[i] = floats::root(weights[i]);
+        roots[i] = root::root(weights[i]);
     }
 }
 

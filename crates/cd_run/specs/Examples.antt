@@ -5,7 +5,7 @@ use Prim.Native.Nat.{ℕ}
 use lib.ListN.{replicate}
 use lib.Ieee.{Float, nan, binary64, ofBits, add, sub, mul, div, neg, lt, le, eq}
 use Rattle.floats.specs.Magnitude.{magnitudeOf}
-use Rattle.floats.specs.Root.{rootOf}
+use Rattle.root.specs.Root.{rootOf}
 use Rattle.domain.specs.Domain.{every}
 use Rattle.answer.specs.declared.Refusal.the-variants.{Count, Lengths, Value, Room, Few}
 use Rattle.rows.specs.Rows.{Rows, rows, positionRows}

@@ -4,9 +4,9 @@ use mathlib.Core.List.{List, [], _∷_}
 use Prim.Native.Nat.{ℕ}
 use lib.IntN.{pos}
 use lib.Ieee.{Float, binary64, ofBits, ofInt, toSigned, neg, mul, add, sub, div, lt, eq, le}
-use Rattle.floats.specs.Root.{rootOf}
 use Rattle.floats.specs.Magnitude.{magnitudeOf}
 use Rattle.floats.specs.Power.{powerOf}
+use Rattle.root.specs.Root.{rootOf}
 use Rattle.rows.specs.Rows.{Rows, rows, positionRows}
 use Rattle.elimination_rows.specs.Matrix.{cells, pivotRow}
 use Rattle.elimination.specs.Elimination.{eliminateFrom, rowLess, unknownsTo, Unknowns, solution}

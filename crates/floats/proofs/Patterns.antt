@@ -13,8 +13,7 @@ use lib.Ieee.Bits.{is-false, cond-no, ofBits-toBits, nanBits-is, nanBits-above}
 use lib.Ieee.Exact.{HasValue, odd-sign}
 use lib.Ieee.Scale.{finite}
 use lib.Ieee.Positive.{positive, positive-finite}
-use Rattle.floats.specs.Root.{inUnits}
-use Rattle.floats.specs.Steps.{fieldUnits, unitsAt}
+use Rattle.floats.specs.Patterns.{inUnits, fieldUnits, unitsAt}
 
 -- ---- a value's units
 

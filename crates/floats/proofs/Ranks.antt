@@ -16,8 +16,7 @@ use lib.Ieee.Bits.{ofBits-fits, toBits-ofBits}
 use lib.Ieee.Exact.{HasValue}
 use lib.Ieee.Order.{le-of-values}
 use lib.Ieee.Positive.{positive, positive-finite, positive-of-value, values-of-le}
-use Rattle.floats.specs.Root.{inUnits, nextUp}
-use Rattle.floats.specs.Steps.{fieldUnits, unitsAt}
+use Rattle.floats.specs.Patterns.{inUnits, fieldUnits, unitsAt, nextUp}
 use Rattle.floats.proofs.Tests.{clash, zero-float, below-zero, inf-below}
 use Rattle.floats.proofs.Signs.{zero-exponent}
 use Rattle.floats.proofs.Patterns.{pattern, of-pattern, whole-units, finite-no-nan, sign-positive}

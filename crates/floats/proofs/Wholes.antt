@@ -14,7 +14,7 @@ use lib.Ieee.Order.{round-mono}
 use lib.Ieee.Scale.{finite}
 use lib.Ieee.Positive.{num, den, positive, own-value, positive-of-value, values-of-le, between}
 use Rattle.floats.specs.Floor.{ceilDiv}
-use Rattle.floats.specs.Steps.{fieldUnits, unitsAt}
+use Rattle.floats.specs.Patterns.{fieldUnits, unitsAt}
 use Rattle.floats.proofs.Division.{ceil-le, ceil-ge, at-least-ceiling}
 use Rattle.floats.proofs.Floors.{reaches, fits-parts}
 use Rattle.floats.proofs.Patterns.{sign, units-are, same-value, of-pattern, finite-no-nan}

@@ -6,7 +6,7 @@ use lib.Ieee.{inf, fin, binary64, mul, ofBits, toBits, ofInt, toSigned}
 use Rattle.floats.specs.Magnitude.{magnitudeOf}
 use Rattle.floats.specs.Floor.{floorOf}
 use Rattle.floats.specs.Power.{powerOf}
-use Rattle.floats.specs.Root.{rootOf, nextUp}
+use Rattle.floats.specs.Patterns.{nextUp}
 
 -- the magnitude of -0.0 is 0.0
 no-sign : magnitudeOf (ofBits binary64 0x8000_0000_0000_0000) ≡ ofBits binary64 0
@@ -31,27 +31,6 @@ least = refl
 cube : powerOf (fin false 3 (negsuc 0)) 3 ≡ fin false 27 (negsuc 2)
 unfolding powerOf mul
 cube = refl
-
--- the roots of 4, 2, the least f64 above zero, the greatest finite f64 and -0.0
-of-four : rootOf (fin false 1 (pos 2)) ≡ fin false 1 (pos 1)
-unfolding rootOf
-of-four = refl
-
-of-two : rootOf (fin false 1 (pos 1)) ≡ ofBits binary64 0x3ff6_a09e_667f_3bcd
-unfolding rootOf ofBits
-of-two = refl
-
-of-least : rootOf (fin false 1 (negsuc 1073)) ≡ fin false 1 (negsuc 536)
-unfolding rootOf
-of-least = refl
-
-of-greatest : rootOf (ofBits binary64 0x7fef_ffff_ffff_ffff) ≡ ofBits binary64 0x5fef_ffff_ffff_ffff
-unfolding rootOf ofBits
-of-greatest = refl
-
-of-minus-zero : rootOf (ofBits binary64 0x8000_0000_0000_0000) ≡ ofBits binary64 0x8000_0000_0000_0000
-unfolding rootOf ofBits
-of-minus-zero = refl
 
 -- the next f64 after 1 is 1 + 2 ^ -52
 after-one : nextUp (fin false 1 (pos 0)) ≡ ofBits binary64 0x3ff0_0000_0000_0001

@@ -2,6 +2,5 @@ pub mod Magnitude
 pub mod Floor
 pub mod Power
 pub mod Rounded
-pub mod Root
-pub mod Steps
+pub mod Patterns
 pub mod Examples

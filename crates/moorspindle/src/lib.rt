@@ -5,7 +5,7 @@ ghost use lib.ListN.{length};
 ghost use Rattle.floats.specs.Magnitude.{magnitudeOf};
 ghost use Rattle.floats.specs.Floor.{floorOf};
 ghost use Rattle.floats.specs.Power.{powerOf};
-ghost use Rattle.floats.specs.Root.{rootOf, IsRoot};
+ghost use Rattle.root.specs.Root.{rootOf, IsRoot};
 ghost use Rattle.answer.specs.Answers.{answerNumber, lentAfter, numberAfter};
 ghost use Rattle.quad_key.specs.Key.{keyOf, neighbourKeys, keysAnswer};
 ghost use Rattle.rows.specs.Rows.{rows};
@@ -54,7 +54,7 @@ pub extern "C" fn moorspindle_root(x: f64) -> f64
     ensures is { λ r. ⌜ r ≡ rootOf x ⌝ }
     ensures nearest { λ r. ⌜ IsRoot x r ⌝ }
 {
-    floats::root(x)
+    root::root(x)
 }
 
 #[no_mangle]

@@ -5,7 +5,7 @@ use Prim.Native.Nat.{ℕ, zero, suc, _+_}
 use lib.IntN.{pos}
 use lib.ListN.{length, getD}
 use lib.Ieee.{Float, nan, binary64, ofBits, ofInt, lt}
-use Rattle.floats.specs.Root.{rootOf}
+use Rattle.root.specs.Root.{rootOf}
 use Rattle.rows.specs.Rows.{Rows, count}
 use Rattle.cd_mask.specs.Marks.{byteOf, ones}
 use Rattle.floats.specs.Rounded.{_⊕_, _⊖_, _⊗_, _⊘_}

@@ -6,7 +6,7 @@ use lib.IntN.{pos}
 use lib.Ieee.{Float, nan, binary64, ofBits, ofInt, add, sub, mul, div, lt}
 use Rattle.floats.specs.Magnitude.{magnitudeOf}
 use Rattle.floats.specs.Power.{powerOf}
-use Rattle.floats.specs.Root.{rootOf}
+use Rattle.root.specs.Root.{rootOf}
 use Rattle.cd_mask.specs.Marks.{ones}
 use Rattle.cd_plate.specs.Filled.{filled}
 use Rattle.sip_terms.specs.Terms.{termAt, valueTo}

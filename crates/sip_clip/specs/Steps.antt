@@ -4,7 +4,7 @@ use mathlib.Core.List.{List}
 use Prim.Native.Nat.{ℕ}
 use lib.ListN.{length, getD}
 use lib.Ieee.{Float, nan, lt}
-use Rattle.floats.specs.Root.{rootOf}
+use Rattle.root.specs.Root.{rootOf}
 use Rattle.rows.specs.Rows.{Rows}
 use Rattle.floats.specs.Rounded.{_⊕_, _⊖_, _⊗_}
 use Rattle.cd_plate.specs.Plate.{nothing}

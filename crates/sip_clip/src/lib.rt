@@ -24,7 +24,7 @@ fn error_of(o: Offset, x: f64, y: f64) -> f64
 {
     let ex = o.du - x;
     let ey = o.dv - y;
-    floats::root(ex * ex + ey * ey)
+    root::root(ex * ex + ey * ey)
 }
 
 // The error of a row that is on; +0.0 for one that is off.
@@ -156,7 +156,7 @@ pub fn put_roots(snr: &[f64], roots: &mut [f64])
 {
     for k in 0..snr.len() {
         let s = snr[k];
-        roots[k] = floats::root(s * s);
+        roots[k] = root::root(s * s);
     }
 }
 
@@ -165,7 +165,7 @@ fn limit_of(sum: f64, n: usize) -> f64
     requires { ⌜ n ≤ 100 ⌝ }
     ensures { λ r. ⌜ r ≡ limitOf sum n ⌝ }
 {
-    Sip::FACTOR * floats::root(sum / (n as u32) as f64)
+    Sip::FACTOR * root::root(sum / (n as u32) as f64)
 }
 
 // The byte of a test.

@@ -4,7 +4,7 @@ use mathlib.Core.List.{[], _∷_}
 use Prim.Native.Nat.{ℕ}
 use lib.IntN.{pos}
 use lib.Ieee.{Float, nan, binary64, ofBits, ofInt, add, mul, div, lt}
-use Rattle.floats.specs.Root.{rootOf}
+use Rattle.root.specs.Root.{rootOf}
 use Rattle.cd_mask.specs.Marks.{ones}
 use Rattle.sip_rms.specs.Rms.{totalsTo, sipOf}
 

@@ -6,7 +6,7 @@ use lib.Dec.{eqb}
 use lib.IntN.{pos}
 use lib.ListN.{length, getD}
 use lib.Ieee.{Float, nan, binary64, ofInt, lt}
-use Rattle.floats.specs.Root.{rootOf}
+use Rattle.root.specs.Root.{rootOf}
 use Rattle.rows.specs.Rows.{Rows, count}
 use Rattle.cd_mask.specs.Marks.{ones}
 use Rattle.floats.specs.Rounded.{_⊕_, _⊗_, _⊘_}

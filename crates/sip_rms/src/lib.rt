@@ -16,7 +16,7 @@ fn root_mean(sum: f64, n: usize) -> f64
     if n == 0 {
         return 0.0;
     }
-    floats::root(sum / (n as u32) as f64)
+    root::root(sum / (n as u32) as f64)
 }
 
 // The root of a weighted mean; 0.0 where the weights come to nothing.
@@ -24,7 +24,7 @@ fn root_share(sum: f64, weights: f64) -> f64
     ensures { λ r. ⌜ r ≡ rootShare sum weights ⌝ }
 {
     if weights > 0.0 {
-        return floats::root(sum / weights);
+        return root::root(sum / weights);
     }
     0.0
 }

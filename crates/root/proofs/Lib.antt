@@ -1,0 +1,10 @@
+pub mod Digits
+pub mod Divided
+pub mod Brought
+pub mod Halves
+pub mod Grid
+pub mod Computed
+pub mod Cases
+pub mod Laws
+pub mod Threshold
+pub mod Squares
