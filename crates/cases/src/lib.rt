@@ -1,8 +1,8 @@
 // What the programs that replay stored cases share: fields of a line that are read, fields of an
 // answer that are printed, both in the form of oracle/README.md.
 use libc::STDOUT_FILENO;
-use scan::Number;
 use scan::Place;
+use scan_digits::Number;
 ghost use mathlib.Core.Path.{_≡_};
 ghost use Prim.Native.Nat.{_≤_};
 ghost use lib.ListN.{length, take};
@@ -32,14 +32,14 @@ pub fn field(s: &[u8], at: usize, k: usize) -> usize {
 
 // The float at a place; NaN where no 16 digits stand there.
 pub fn float_at(s: &[u8], at: usize) -> f64 {
-    match scan::read_hex(s, at) {
-        Number::Is(bits, _) => scan::of_bits(bits),
+    match scan_digits::read_hex(s, at) {
+        Number::Is(bits, _) => scan_digits::of_bits(bits),
         Number::Wrong(_) => 0.0 / 0.0,
     }
 }
 
 fn is_float(s: &[u8], at: usize) -> bool {
-    match scan::read_hex(s, at) {
+    match scan_digits::read_hex(s, at) {
         Number::Is(_, _) => true,
         Number::Wrong(_) => false,
     }
@@ -47,7 +47,7 @@ fn is_float(s: &[u8], at: usize) -> bool {
 
 // The place after the float at a place and the comma behind it, or the end of the text.
 fn after_float(s: &[u8], at: usize) -> usize {
-    let Number::Is(_, p) = scan::read_hex(s, at) else {
+    let Number::Is(_, p) = scan_digits::read_hex(s, at) else {
         return s.len();
     };
     let Place::Next(q) = scan::read_bytes(s, p, b",") else {
@@ -58,14 +58,14 @@ fn after_float(s: &[u8], at: usize) -> usize {
 
 // The number at a place; 0 where none stands there.
 pub fn number_at(s: &[u8], at: usize) -> u64 {
-    match scan::read_decimal(s, at) {
+    match scan_digits::read_decimal(s, at) {
         Number::Is(n, _) => n,
         Number::Wrong(_) => 0,
     }
 }
 
 fn is_number(s: &[u8], at: usize) -> bool {
-    match scan::read_decimal(s, at) {
+    match scan_digits::read_decimal(s, at) {
         Number::Is(_, _) => true,
         Number::Wrong(_) => false,
     }
@@ -73,7 +73,7 @@ fn is_number(s: &[u8], at: usize) -> bool {
 
 // The place after the number at a place and the comma behind it, or the end of the text.
 fn after_number(s: &[u8], at: usize) -> usize {
-    let Number::Is(_, p) = scan::read_decimal(s, at) else {
+    let Number::Is(_, p) = scan_digits::read_decimal(s, at) else {
         return s.len();
     };
     let Place::Next(q) = scan::read_bytes(s, p, b",") else {
@@ -189,7 +189,7 @@ pub fn u32s_at(s: &[u8], at: usize, out: &mut [u32]) -> usize
 
 // The id at a place, by the 16 digits of its two's complement; 0 where none stands there.
 fn id_at(s: &[u8], at: usize) -> i64 {
-    let Number::Is(bits, _) = scan::read_hex(s, at) else {
+    let Number::Is(bits, _) = scan_digits::read_hex(s, at) else {
         return 0;
     };
     if bits < 0x8000_0000_0000_0000 {

@@ -128,7 +128,7 @@ fn lend_extract_pairs(
     ras: &[f64],
     decs: &[f64],
 ) {
-    let pattern = scan::of_bits(0xa5a5a5a5a5a5a5a5);
+    let pattern = scan_digits::of_bits(0xa5a5a5a5a5a5a5a5);
     let mut px = [pattern; 101];
     let mut py = [pattern; 101];
     let mut ra = [pattern; 101];
@@ -226,7 +226,7 @@ fn extract_pairs(s: &[u8], at: usize) {
 // ---- affines
 
 fn fit_affine_3pt(s: &[u8], at: usize, px: &[f64], py: &[f64], xi: &[f64], eta: &[f64]) {
-    let pattern = scan::of_bits(0xa5a5a5a5a5a5a5a5);
+    let pattern = scan_digits::of_bits(0xa5a5a5a5a5a5a5a5);
     let mut affine = [pattern; 16];
     let room = cases::floats_room(s, cases::field(s, at, 7), &affine);
     call_fit_affine_3pt(s, at, px, py, xi, eta, &mut affine[..room]);

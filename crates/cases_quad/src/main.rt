@@ -93,7 +93,7 @@ fn normalize_quad_ordered(s: &[u8], at: usize) {
     let n = cases::floats_at(s, at, &mut xs);
     let m = cases::floats_at(s, cases::field(s, at, 1), &mut ys);
     let f = four_at(s, cases::field(s, at, 2));
-    let pattern = scan::of_bits(0xa5a5a5a5a5a5a5a5);
+    let pattern = scan_digits::of_bits(0xa5a5a5a5a5a5a5a5);
     let mut hash = [pattern; 16];
     let mut places = [0xa5u8; 16];
     let h = cases::floats_room(s, cases::field(s, at, 6), &hash);
@@ -153,7 +153,7 @@ fn call_neighbor_quads(
 
 // 4,096 places are room for the quads of 14 stars.
 fn lend_neighbor_quads(s: &[u8], at: usize, xs: &[f64], ys: &[f64]) {
-    let pattern = scan::of_bits(0xa5a5a5a5a5a5a5a5);
+    let pattern = scan_digits::of_bits(0xa5a5a5a5a5a5a5a5);
     let mut places = [0xa5u8; 4096];
     let mut hashes = [pattern; 4096];
     let k = cases::word_at(s, cases::field(s, at, 2));

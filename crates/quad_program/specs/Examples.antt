@@ -3,7 +3,8 @@ use mathlib.Core.Path.{_≡_, refl}
 use mathlib.Core.List.{List, [], _∷_}
 use Prim.Native.Nat.{ℕ}
 use lib.Ieee.{binary64, ofBits}
-use Rattle.scan.specs.Read.{hexValue, readHex, decimalValue, moreDecimal, readDecimal, readBytes}
+use Rattle.scan_digits.specs.Read.{hexValue, readHex, decimalValue, moreDecimal, readDecimal}
+use Rattle.scan.specs.Read.{readBytes}
 use Rattle.digits.specs.Digits.{hexFrom, decimalFrom, decimalOf}
 use Rattle.text.specs.Lines.{decimalLine}
 use Rattle.quad_program.specs.Form.{Form, hexField, decimalField, starOf, starsFrom, parsed}

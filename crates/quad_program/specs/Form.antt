@@ -5,11 +5,12 @@ use Prim.Native.Nat.{ℕ, zero, suc}
 use lib.Dec.{ltb}
 use lib.ListN.{length, take, drop}
 use lib.Ieee.{Float, binary64, ofBits}
-use Rattle.scan.specs.declared.Number.{Number}
-use Rattle.scan.specs.declared.Number.the-variants as number
+use Rattle.scan_digits.specs.declared.Number.{Number}
+use Rattle.scan_digits.specs.declared.Number.the-variants as number
+use Rattle.scan_digits.specs.Read.{readHex, readDecimal}
 use Rattle.scan.specs.declared.Place.{Place}
 use Rattle.scan.specs.declared.Place.the-variants as place
-use Rattle.scan.specs.Read.{readHex, readDecimal, readBytes}
+use Rattle.scan.specs.Read.{readBytes}
 use Rattle.quad_program.specs.declared.Star.{Star}
 use Rattle.quad_program.specs.declared.Star.the-variants as star
 use Rattle.quad_program.specs.declared.Stars.{Stars}

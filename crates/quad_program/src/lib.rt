@@ -2,8 +2,8 @@
 use answer::Refusal;
 use quad::Quads;
 use quad_key::Hash;
-use scan::Number;
 use scan::Place;
+use scan_digits::Number;
 ghost use mathlib.Core.Path.{_≡_};
 ghost use Prim.Native.Nat.{_+_, _*_, _≤_};
 ghost use lib.ListN.{length, take, drop};
@@ -53,7 +53,7 @@ fn decimal_field(s: &[u8], at: usize, name: &[u8], end: &[u8]) -> Number
 {
     match scan::read_bytes(s, at, name) {
         Place::Not(p) => Number::Wrong(p),
-        Place::Next(p) => match scan::read_decimal(s, p) {
+        Place::Next(p) => match scan_digits::read_decimal(s, p) {
             Number::Wrong(q) => Number::Wrong(q),
             Number::Is(n, q) => ended(s, n, q, end),
         },
@@ -66,7 +66,7 @@ fn hex_field(s: &[u8], at: usize, name: &[u8], end: &[u8]) -> Number
 {
     match scan::read_bytes(s, at, name) {
         Place::Not(p) => Number::Wrong(p),
-        Place::Next(p) => match scan::read_hex(s, p) {
+        Place::Next(p) => match scan_digits::read_hex(s, p) {
             Number::Wrong(q) => Number::Wrong(q),
             Number::Is(n, q) => ended(s, n, q, end),
         },
@@ -81,7 +81,7 @@ fn read_star(s: &[u8], at: usize) -> Star
         Number::Wrong(_) => Star::Wrong,
         Number::Is(x, p) => match hex_field(s, p, b"", b"\n") {
             Number::Wrong(_) => Star::Wrong,
-            Number::Is(y, q) => Star::At(scan::of_bits(x), scan::of_bits(y), q),
+            Number::Is(y, q) => Star::At(scan_digits::of_bits(x), scan_digits::of_bits(y), q),
         },
     }
 }
@@ -126,7 +126,7 @@ fn parse(s: &[u8], xs: &mut [f64], ys: &mut [f64]) -> Parsed
         Stars::Wrong => Parsed::Wrong,
         Stars::Are(stars) => Parsed::Input {
             k: k as usize,
-            least: scan::of_bits(least),
+            least: scan_digits::of_bits(least),
             stars,
         },
     }

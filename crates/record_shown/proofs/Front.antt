@@ -9,10 +9,10 @@ use lib.Ieee.Bits.{ofBits-toBits, toBits-lt}
 use Rattle.digits.specs.Digits.{hexFrom, decimalOf}
 use Rattle.text.specs.Lines.{floatLine, decimalLine}
 use Rattle.text.proofs.Lines.{length-float-line}
-use Rattle.scan.specs.declared.Number.{Number}
-use Rattle.scan.specs.declared.Number.the-variants as number
-use Rattle.scan.specs.Read.{readHex, decimalValue, readDecimal}
-use Rattle.scan.proofs.Round.{hex16-read, decimal-read}
+use Rattle.scan_digits.specs.declared.Number.{Number}
+use Rattle.scan_digits.specs.declared.Number.the-variants as number
+use Rattle.scan_digits.specs.Read.{readHex, decimalValue, readDecimal}
+use Rattle.scan_digits.proofs.Round.{hex16-read, decimal-read}
 use Rattle.record_lines.specs.Lines.{numberLine}
 use Rattle.record_shown.specs.Shown.{IsF64}
 

@@ -1,12 +1,12 @@
--- `scan::more_decimal` meets its contract: the loop's invariant: reading on from here comes to the same as reading from the start.
+-- `scan_digits::more_decimal` meets its contract: the loop's invariant: reading on from here comes to the same as reading from the start.
 use native.Mathlib.Omega.{arith}
 use mathlib.Core.Path.{_≡_, refl, _∙_}
 use Prim.Native.Nat.{_-_, _≤_}
 use lib.ListN.{length, drop}
-use Rattle.scan.specs.Read.{moreDecimal}
-use Rattle.scan.proofs.Reading.{decimal-next, decimal-stop, decimal-end}
-use Rattle.scan.proofs.more_decimal.Statement.{statement}
-use Rattle.scan.proofs.more_decimal.Tie as tie
+use Rattle.scan_digits.specs.Read.{moreDecimal}
+use Rattle.scan_digits.proofs.Reading.{decimal-next, decimal-stop, decimal-end}
+use Rattle.scan_digits.proofs.more_decimal.Statement.{statement}
+use Rattle.scan_digits.proofs.more_decimal.Tie as tie
 
 abbrev Inv-loop : tie.InvT-loop
 Inv-loop s at first p₀ acc₀ p acc = (moreDecimal (drop p s) p acc ≡ moreDecimal (drop at s) at first) × (acc ≤ 4294967296)

@@ -1,8 +1,8 @@
--- `scan::held_at` meets its contract: one test.
+-- `scan_digits::held_at` meets its contract: one test.
 use borrow.Author.Tests.{lt-ltb, le-ltb}
 use native.Mathlib.Omega.{arith}
-use Rattle.scan.proofs.held_at.Statement.{statement}
-use Rattle.scan.proofs.held_at.Tie as tie
+use Rattle.scan_digits.proofs.held_at.Statement.{statement}
+use Rattle.scan_digits.proofs.held_at.Tie as tie
 
 returns : tie.Need-returns
 returns c = (rw (lt-ltb _ _ (c .if1 .taken)), omega arith)

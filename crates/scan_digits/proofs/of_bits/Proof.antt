@@ -1,9 +1,9 @@
--- `scan::of_bits` meets its contract: the two tests of `nanBits`, in its own words.
+-- `scan_digits::of_bits` meets its contract: the two tests of `nanBits`, in its own words.
 use lib.Ieee.{div, ofBits}
-use Rattle.scan.proofs.Reading.{bits-plain, bits-whole, bits-nan}
+use Rattle.scan_digits.proofs.Reading.{bits-plain, bits-whole, bits-nan}
 use borrow.Author.Needs.{needs}
-use Rattle.scan.proofs.of_bits.Statement.{statement}
-use Rattle.scan.proofs.of_bits.Tie as tie
+use Rattle.scan_digits.proofs.of_bits.Statement.{statement}
+use Rattle.scan_digits.proofs.of_bits.Tie as tie
 
 float-from-bits-result : tie.Need-float-from-bits-result
 float-from-bits-result c = bits-plain _ (c .if1 .taken)

@@ -1,13 +1,13 @@
--- `scan::read_hex` meets its contract: the loop's invariant: reading on from here comes to the same as reading from the start.
+-- `scan_digits::read_hex` meets its contract: the loop's invariant: reading on from here comes to the same as reading from the start.
 use native.Mathlib.Omega.{arith}
 use mathlib.Core.Path.{_≡_, refl, _∙_}
 use Prim.Native.Nat.{_-_, _*_, _^_, _≤_, _<_}
 use lib.ListN.{drop}
 use lib.Dec.{lit<}
-use Rattle.scan.specs.Read.{readHex}
-use Rattle.scan.proofs.Reading.{hex-more, hex-short, hex-wrong, hex-done, hex-grow, hex-fits}
-use Rattle.scan.proofs.read_hex.Statement.{statement}
-use Rattle.scan.proofs.read_hex.Tie as tie
+use Rattle.scan_digits.specs.Read.{readHex}
+use Rattle.scan_digits.proofs.Reading.{hex-more, hex-short, hex-wrong, hex-done, hex-grow, hex-fits}
+use Rattle.scan_digits.proofs.read_hex.Statement.{statement}
+use Rattle.scan_digits.proofs.read_hex.Tie as tie
 
 abbrev Inv-loop : tie.InvT-loop
 Inv-loop s at p₀ acc₀ i₀ p acc i = (readHex (16 - i) (drop p s) p acc ≡ readHex 16 (drop at s) at 0) × (i ≤ 16) × (acc < 2 ^ (4 * i))

@@ -1,9 +1,9 @@
--- `scan::decimal_value` meets its contract: one test for each bound of the run of digits.
+-- `scan_digits::decimal_value` meets its contract: one test for each bound of the run of digits.
 use borrow.Author.Tests.{lt-ltb, le-ltb}
 use native.Mathlib.Omega.{arith}
-use Rattle.scan.specs.Read.{decimalValue}
-use Rattle.scan.proofs.decimal_value.Statement.{statement}
-use Rattle.scan.proofs.decimal_value.Tie as tie
+use Rattle.scan_digits.specs.Read.{decimalValue}
+use Rattle.scan_digits.proofs.decimal_value.Statement.{statement}
+use Rattle.scan_digits.proofs.decimal_value.Tie as tie
 
 returns : tie.Need-returns
 unfolding decimalValue

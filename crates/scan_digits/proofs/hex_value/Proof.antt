@@ -1,9 +1,9 @@
--- `scan::hex_value` meets its contract: one test for each bound of the two runs of digits.
+-- `scan_digits::hex_value` meets its contract: one test for each bound of the two runs of digits.
 use borrow.Author.Tests.{lt-ltb, le-ltb}
 use native.Mathlib.Omega.{arith}
-use Rattle.scan.specs.Read.{hexValue}
-use Rattle.scan.proofs.hex_value.Statement.{statement}
-use Rattle.scan.proofs.hex_value.Tie as tie
+use Rattle.scan_digits.specs.Read.{hexValue}
+use Rattle.scan_digits.proofs.hex_value.Statement.{statement}
+use Rattle.scan_digits.proofs.hex_value.Tie as tie
 
 returns : tie.Need-returns
 unfolding hexValue

@@ -1,9 +1,9 @@
--- `scan::read_decimal` meets its contract: each way out has its law.
+-- `scan_digits::read_decimal` meets its contract: each way out has its law.
 use native.Mathlib.Omega.{arith}
 use mathlib.Core.Path.{_∙_}
-use Rattle.scan.proofs.Reading.{decimal-none, decimal-wrong, decimal-zero, decimal-first}
-use Rattle.scan.proofs.read_decimal.Statement.{statement}
-use Rattle.scan.proofs.read_decimal.Tie as tie
+use Rattle.scan_digits.proofs.Reading.{decimal-none, decimal-wrong, decimal-zero, decimal-first}
+use Rattle.scan_digits.proofs.read_decimal.Statement.{statement}
+use Rattle.scan_digits.proofs.read_decimal.Tie as tie
 
 returns : tie.Need-returns
 returns c = decimal-none _ _ (c .if1 .taken)
