@@ -1,5 +1,5 @@
 -- What the calls on affines answer and write when the result goes into what is lent. Definitions only.
-use mathlib.Core.Bool.{cond, not}
+use mathlib.Core.Bool.{cond}
 use mathlib.Core.List.{List, [], _∷_}
 use Prim.Native.Nat.{ℕ}
 use lib.Dec.{eqb}
