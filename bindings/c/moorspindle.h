@@ -15,7 +15,9 @@
 
         1  a count is outside its limit
         2  lengths that belong together differ
-        3  a value is outside the domain; NaN and infinity always are
+        3  a value is outside its domain, as NaN and infinity always are; what takes every
+           float (hashes, the numbers of an rms, of equations, a record's coefficients and
+           sums) has no domain to be outside of
         4  a place is outside its list
         5  the SIP order is outside 2..5
         6  too few rows for a SIP fit
@@ -30,8 +32,10 @@
    DOMAIN. Lists of stars, detections, rows, votes and catalogue results have 0..100 members,
    lists of quads 0..12,000. A position (x, y, px, py, xi, eta, right ascension, declination, a
    reference pixel) has a magnitude of at most 1,048,576; an snr is 0..1,048,576, a weight
-   0..2^40, a mask byte 0 or 1, and CD and affine numbers are finite. A value outside is number
-   3 also where its row is off.
+   0..2^40, a mask byte 0 or 1; a limit (min_spine_sq, threshold, limit) is finite and not below
+   zero, and CD and affine numbers are finite. -0.0 counts as zero. A value outside is number 3
+   also where its row is off. A mask, weights or snr of more than 100 are number 1 like any list
+   of rows, also beside fewer rows: counts are looked at before lengths are compared.
 
    SHAPES. Rows are four lists of one length: px, py (pixels), xi, eta (tangent plane). A quad is
    four star places A, B, C, D, bytes, and four hash numbers. A match is eight places: the image
@@ -187,9 +191,9 @@ uint32_t moorspindle_ransac_fit(const double *px, size_t px_len, const double *p
 
 /* Turns rows off whose error, times the root of the weight, is more than three times the root of
    the mean weighted square, and fits the rest anew, up to ten rounds: until a round turns none
-   off, or fewer than three are on. `mask` and `cd` are
-   read and written. Refuses with 1 2 3 8; number 8, a refit that fails, keeps the rows turned off
-   so far and leaves the last good CD in `cd`. */
+   off, or fewer than three are on. `mask` and `cd` are read and written. Refuses with 1 2 3 8;
+   number 8, a refit that fails, keeps the rows turned off so far and leaves the last good CD in
+   `cd`. */
 uint32_t moorspindle_sigma_clip_loop_weighted(const double *px, size_t px_len,
         const double *py, size_t py_len, const double *xi, size_t xi_len,
         const double *eta, size_t eta_len, uint8_t *mask, size_t mask_len,
@@ -234,9 +238,9 @@ uint32_t moorspindle_fit_sip(const double *px, size_t px_len, const double *py, 
         uint64_t *rows_used, double *sums, size_t sums_len);
 
 /* The text of a solution, a line for each number, floats as the 16 hex digits of their bits.
-   `a` and `b` have a number for each term of the order, and dropped ones no line; `sums` are as
-   fit_sip hands them out. *written is the number of bytes, at most 1,065; no zero byte ends
-   them. Refuses with 1 2 3 5 7. */
+   `a` and `b` have a number for each term of the order, and dropped ones no line; `sums` are the
+   three that fit_sip hands out, and in another length number 2. *written is the number of bytes,
+   at most 1,065; no zero byte ends them. Refuses with 1 2 3 5 7. */
 uint32_t moorspindle_write_record(uint64_t rows_used, const double *wcs, size_t wcs_len, uint32_t order,
         const double *a, size_t a_len, const double *b, size_t b_len,
         const double *sums, size_t sums_len, uint8_t *text, size_t text_len, uint64_t *written);
