@@ -166,15 +166,21 @@ module _ (r : Rows) (limit : Float) (pool : List ℕ) (trials : ℕ) where
           none-has = λ t x d. omega (arith, w .1, none-better (fitTriple r pool) (fitAgain r limit) (nearCount r limit) (d .triple .here) x (d .fits));
         }
 
-    -- what is demanded of a fitted run, of an untested one, and of number 9
-    abbrev pub Kept : Type 0
-    Kept = ((k : ℕ) → v ≡ run.Fitted k → FittedBest r limit pool trials k mask)
-        × (((k : ℕ) → v ≡ run.Untested k → AllOn r pool k mask)
-        × (v ≡ run.Refused refusal.Few → NoneHasThree r limit pool trials))
+    -- what is demanded of a fitted run
+    abbrev pub KeptFitted : Type 0
+    KeptFitted = (k : ℕ) → v ≡ run.Fitted k → FittedBest r limit pool trials k mask
+
+    -- of an untested one
+    abbrev pub KeptUntested : Type 0
+    KeptUntested = (k : ℕ) → v ≡ run.Untested k → AllOn r pool k mask
+
+    -- and of number 9
+    abbrev pub KeptNine : Type 0
+    KeptNine = v ≡ run.Refused refusal.Few → NoneHasThree r limit pool trials
 
     -- it follows from the answer and the mask, after any tests that do not give number 9
     pub kept : (a : Answer) → (a ≡ answer.Refused refusal.Few → ⊥) → v ≡ endAnswer r limit (afterTests a (poolEnd r limit pool trials))
-        → mask ≡ endMask r limit (afterTests a (poolEnd r limit pool trials)) old → Kept
+        → mask ≡ endMask r limit (afterTests a (poolEnd r limit pool trials)) old → KeptFitted × (KeptUntested × KeptNine)
     kept answer.Done n e m = (fitted-best (poolEnd r limit pool trials) refl e m, (untested-all (poolEnd r limit pool trials) refl e m, nine-none (poolEnd r limit pool trials) refl e))
     kept (answer.Refused why) n e m =
         (λ k h. let z : _≡_ {A = ℕ} 0 1 = cc in absurd (omega arith), (λ k h. let z : _≡_ {A = ℕ} 0 1 = cc in absurd (omega arith), λ h. let q : why ≡ refusal.Few = cc in absurd (n (ap answer.Refused q))))

@@ -21,7 +21,7 @@ use Rattle.cd_trial.specs.declared.Held.{Held}
 use Rattle.cd_trial.specs.Trial.{modelOf, fitTriple, fitAgain, bestOf}
 use Rattle.cd_trial.specs.Held.{IsHeld}
 use Rattle.cd_run.specs.declared.CdRun.{CdRun}
-use Rattle.cd_run.specs.Run.{testsOf, Outcome, refused, untested, fitted, heldEnd, poolEnd, endAnswer, endMask}
+use Rattle.cd_run.specs.Run.{mostTrials, testsOf, Outcome, refused, untested, fitted, heldEnd, poolEnd, endAnswer, endMask}
 
 -- ---- what a run is like whose tests are done
 pub record Passed (r : Rows) (votes : ℕ) (limit : Float) (trials places : ℕ) : Type 0 where
@@ -45,10 +45,10 @@ module _ (r : Rows) (votes : ℕ) (limit : Float) (trials places : ℕ) where
   tests : testsOf r votes limit trials places ≡ answer.Done → Tests
   unfolding testsOf
   tests e =
-      let f = passed (not (fewRows r && (leb votes 100 && leb trials 1000))) _ _ e in
+      let f = passed (not (fewRows r && (leb votes 100 && leb trials mostTrials))) _ _ e in
       let g = passed (not (evenRows r)) _ _ (f .1) in
       let h = passed (not (positionRows r && isLimit limit)) _ _ (g .1) in
-      let counts = and-eq-true-iff (fewRows r) _ .0 (not-false (fewRows r && (leb votes 100 && leb trials 1000)) (f .0)) in
+      let counts = and-eq-true-iff (fewRows r) _ .0 (not-false (fewRows r && (leb votes 100 && leb trials mostTrials)) (f .0)) in
       record {
         few = counts .0;
         votes-few = and-eq-true-iff (leb votes 100) _ .0 (counts .1) .0;
@@ -74,17 +74,17 @@ module _ (r : Rows) (votes : ℕ) (limit : Float) (trials places : ℕ) where
       }
 
   -- any other number of trials that is in its limit passes too
-  pub tests-again : testsOf r votes limit trials places ≡ answer.Done → (other : ℕ) → other ≤ 1000 → testsOf r votes limit other places ≡ answer.Done
+  pub tests-again : testsOf r votes limit trials places ≡ answer.Done → (other : ℕ) → other ≤ mostTrials → testsOf r votes limit other places ≡ answer.Done
   unfolding testsOf
   tests-again e other h =
       let t = tests e in
-      rw (t .few, t .votes-few, le-leb other 1000 h, t .even, t .good, t .room)
+      rw (t .few, t .votes-few, le-leb other mostTrials h, t .even, t .good, t .room)
 
   -- no test gives number 9
   pub tests-not-nine : testsOf r votes limit trials places ≡ answer.Refused refusal.Few → ⊥
   unfolding testsOf
   tests-not-nine =
-      go (not (fewRows r && (leb votes 100 && leb trials 1000))) (not (evenRows r)) (not (positionRows r && isLimit limit)) (ltb places (count r))
+      go (not (fewRows r && (leb votes 100 && leb trials mostTrials))) (not (evenRows r)) (not (positionRows r && isLimit limit)) (ltb places (count r))
     where
       go : (a b c d : Bool)
           → cond a (answer.Refused refusal.Count) (cond b (answer.Refused refusal.Lengths) (cond c (answer.Refused refusal.Value) (cond d (answer.Refused refusal.Room) answer.Done))) ≡ answer.Refused refusal.Few

@@ -1,8 +1,8 @@
 -- More trials still answer fitted, with no fewer rows on. Assumes nothing.
-use mathlib.Core.Path.{_≡_, refl, ap}
+use mathlib.Core.Path.{_≡_, refl, ap, subst}
 use mathlib.Core.List.{List}
 use mathlib.Core.Option.{Option, some, none}
-use Prim.Native.Nat.{ℕ, _+_, _≤_}
+use Prim.Native.Nat.{ℕ, _+_, _-_, _≤_}
 use native.Mathlib.Omega.{arith}
 use lib.ListN.{length}
 use lib.Ieee.{Float}
@@ -19,6 +19,7 @@ use Rattle.cd_near.specs.Near.{nearCount}
 use Rattle.cd_trial.specs.Trial.{startWord, fitTriple, fitAgain, bestOf}
 use Rattle.cd_run.specs.declared.CdRun.the-variants as run
 use Rattle.cd_run.specs.Run.{testsOf, Outcome, refused, untested, fitted, heldEnd, poolEnd, afterTests, runEnd, endAnswer, runAnswer}
+use Rattle.cd_run.specs.Demand.{FittedWith, StillFitted}
 use Rattle.cd_run.proofs.Ending.{tests-again}
 use Rattle.cd_run.proofs.Demand.{refused-not-fitted, was-fitted, heldCount}
 
@@ -56,12 +57,21 @@ tests-done answer.Done o m e = (refl, e)
 tests-done (answer.Refused why) o m e = absurd (refused-not-fitted e)
 
 -- More trials, up to 1,000, on the same input still answer fitted, with no fewer rows on
-pub more-plates : (r : Rows) (votes : List ℕ) (limit : Float) (trials more places k : ℕ) → trials + more ≤ 1000
-    → runAnswer r votes limit trials places ≡ run.Fitted k
-    → (j : ℕ) × (runAnswer r votes limit (trials + more) places ≡ run.Fitted j) × (k ≤ j)
+pub more-plates : (r : Rows) (votes : List ℕ) (limit : Float) (trials places k : ℕ) → runAnswer r votes limit trials places ≡ run.Fitted k
+    → StillFitted (λ n. runAnswer r votes limit n places) trials k
 unfolding runEnd
-more-plates r votes limit trials more places k h e =
-    let f = fitted-end r limit (runEnd r votes limit trials places) k e in
-    let d = tests-done (testsOf r (length votes) limit trials places) _ (f .0) (f .1) in
-    let g = more-fitted r limit (poolOf votes (rows.count r)) trials more (f .0) (d .1) in
-    (nearCount r limit (g .0), rw (tests-again r (length votes) limit trials places (d .0) (trials + more) h, g .1), omega (arith, f .2, g .2))
+more-plates r votes limit trials places k e = record { more = λ n l h. subst (λ m. FittedWith k (runAnswer r votes limit m places)) (sum n l) (at (n - trials) (omega (arith, sum n l))) }
+  where
+    sum : (n : ℕ) → trials ≤ n → trials + (n - trials) ≡ n
+    sum n l = omega arith
+
+    at : (more : ℕ) → trials + more ≤ 1000 → FittedWith k (runAnswer r votes limit (trials + more) places)
+    at more h =
+        let f = fitted-end r limit (runEnd r votes limit trials places) k e in
+        let d = tests-done (testsOf r (length votes) limit trials places) _ (f .0) (f .1) in
+        let g = more-fitted r limit (poolOf votes (rows.count r)) trials more (f .0) (d .1) in
+        record {
+          on = nearCount r limit (g .0);
+          fitted = rw (tests-again r (length votes) limit trials places (d .0) (trials + more) h, g .1);
+          no-fewer = omega (arith, f .2, g .2);
+        }

@@ -36,17 +36,17 @@ abbrev sevens : List ℕ
 sevens = replicate 5 7
 
 -- P9: the pool is one row, so the run is untested
-untested-four : runAnswer corners (30 ∷ 9 ∷ 9 ∷ 9 ∷ []) half 1000 5 ≡ Untested 4
+untested-four : runAnswer corners (30 ∷ 9 ∷ 9 ∷ 9 ∷ []) half 100 5 ≡ Untested 4
 unfolding runEnd testsOf poolEnd poolOf placesFrom leastOf greatest positionRows every ofBits neg lt le eq
 untested-four = refl
 
 -- and every row's byte is one
-untested-mask : maskAfter corners (30 ∷ 9 ∷ 9 ∷ 9 ∷ []) half 1000 sevens ≡ 1 ∷ 1 ∷ 1 ∷ 1 ∷ 7 ∷ []
+untested-mask : maskAfter corners (30 ∷ 9 ∷ 9 ∷ 9 ∷ []) half 100 sevens ≡ 1 ∷ 1 ∷ 1 ∷ 1 ∷ 7 ∷ []
 unfolding runEnd testsOf poolEnd poolOf placesFrom leastOf greatest positionRows every ofBits neg lt le eq
 untested-mask = refl
 
 -- no rows: untested too
-no-rows : runAnswer (rows [] [] [] []) (3 ∷ 3 ∷ 3 ∷ []) half 1000 0 ≡ Untested 0
+no-rows : runAnswer (rows [] [] [] []) (3 ∷ 3 ∷ 3 ∷ []) half 100 0 ≡ Untested 0
 unfolding runEnd testsOf poolEnd poolOf placesFrom leastOf greatest positionRows every ofBits neg lt le eq
 no-rows = refl
 

@@ -20,10 +20,14 @@ use Rattle.cd_trial.specs.Trial.{bestOf}
 use Rattle.cd_run.specs.declared.CdRun.{CdRun}
 use Rattle.cd_run.specs.declared.CdRun.the-variants as run
 
+-- the most trials of a run
+abbrev pub mostTrials : ℕ
+mostTrials = 1000
+
 -- what the tests come to, of so many votes and trials and a mask of so many places: number 1, 2, 3 or 7, or done
 unfoldable pub testsOf : Rows → ℕ → Float → ℕ → ℕ → Answer
 testsOf r votes limit trials places =
-    cond (not (fewRows r && (leb votes 100 && leb trials 1000))) (answer.Refused refusal.Count)
+    cond (not (fewRows r && (leb votes 100 && leb trials mostTrials))) (answer.Refused refusal.Count)
     (cond (not (evenRows r)) (answer.Refused refusal.Lengths)
     (cond (not (positionRows r && isLimit limit)) (answer.Refused refusal.Value)
     (roomFor (count r) places)))

@@ -12,7 +12,7 @@ ghost use Rattle.domain.specs.Domain.{isLimit};
 ghost use Rattle.rows.specs.Rows.{rows};
 ghost use Rattle.cd_pool.specs.Pool.{poolOf};
 ghost use Rattle.cd_run.specs.Run.{testsOf, poolEnd, endAnswer, endMask, runAnswer, maskAfter, runNumber};
-ghost use Rattle.cd_run.specs.Demand.{FittedBest, AllOn, NoneHasThree};
+ghost use Rattle.cd_run.specs.Demand.{FittedBest, AllOn, NoneHasThree, StillFitted};
 
 // The longest list of votes.
 const MOST_VOTES: usize = 100;
@@ -118,8 +118,7 @@ fn no_places() -> [usize; 100]
 // `fitted` shuts out a run that fits only its first trial: no drawn triple that can be fitted has more rows.
 // `untested` shuts out a tested pool that is read as untested, and a row that is then left off.
 // `nine` shuts out number 9 where a drawn triple that can be fitted has three rows.
-// More trials, up to 1,000, on the same input still answer fitted, with no fewer rows on: the law `more-plates`
-// (proofs/More.antt), on the definition that `answer` names.
+// `more` shuts out a run that fits with some trials and with more of them, up to 1,000, does not, or with fewer rows.
 pub fn ransac_fit(
     px: &[f64],
     py: &[f64],
@@ -138,6 +137,8 @@ pub fn ransac_fit(
         → AllOn (rows (now (px .entry)) (now (py .entry)) (now (xi .entry)) (now (eta .entry))) (poolOf (now (votes .entry)) (length (now (px .entry)))) k (now (mask .exit))) ⌝ }
     ensures nine { λ r. ⌜ (r ≡ CdRun.Refused Refusal.Few
         → NoneHasThree (rows (now (px .entry)) (now (py .entry)) (now (xi .entry)) (now (eta .entry))) limit (poolOf (now (votes .entry)) (length (now (px .entry)))) trials) ⌝ }
+    ensures more { λ r. ⌜ ((k : ℕ) → r ≡ CdRun.Fitted k
+        → StillFitted (λ n. runAnswer (rows (now (px .entry)) (now (py .entry)) (now (xi .entry)) (now (eta .entry))) (now (votes .entry)) limit n (length (now (mask .entry)))) trials k) ⌝ }
 {
     match check_run(px, py, xi, eta, votes.len(), limit, trials, mask.len()) {
         Answer::Refused(why) => CdRun::Refused(why),

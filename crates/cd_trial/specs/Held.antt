@@ -7,7 +7,7 @@ use lib.Ieee.{Float}
 use Rattle.rows.specs.Rows.{Rows}
 use Rattle.draw.specs.Draw.{Triple}
 use Rattle.draw.specs.Best.{count, improved, keep, step}
-use Rattle.draw.proofs.Holding.{Holds}
+use Rattle.draw.specs.Holds.{Holds}
 use Rattle.cd_plate.specs.declared.Cd.{Cd}
 use Rattle.cd_near.specs.Near.{nearCount}
 use Rattle.cd_trial.specs.declared.Held.{Held}

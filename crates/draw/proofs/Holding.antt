@@ -6,29 +6,25 @@ use native.Mathlib.Numerals.{add-one}
 use native.Mathlib.Omega.{arith}
 use borrow.Author.Tests.{le-leb, lt-leb, lt-ltb, le-ltb}
 use Rattle.draw.specs.Best.{count, improved, keepIf, keep, step, run, best, noRefit}
+use Rattle.draw.specs.Holds.{Holds}
 use Rattle.draw.specs.Draw.{Triple, threeWords, tripleAfter, wordAfter, triples}
 use Rattle.draw.proofs.Best.{run-snoc, keep-greater, more-trials}
 use Rattle.draw.proofs.Drawing.{word-suc, triples-suc, triples-add}
 
 module _ {Model Trial : Type 0} (fit : Trial → Option Model) (refit : Model → Option Model) (agree : Model → ℕ) where
-  -- the code holds `have`, with the number n: that is o, and its number of rows
-  pub record Holds (o have : Option Model) (n : ℕ) : Type 0 where
-    pub model : have ≡ o
-    pub rows-on : n ≡ count fit refit agree o
-
   -- ---- a model and its refit
   module _ (m : Model) (n : ℕ) (e : n ≡ agree m) where
-    pub improve-none : refit m ≡ none → Holds (some (improved fit refit agree m (refit m))) (some m) n
+    pub improve-none : refit m ≡ none → Holds fit refit agree (some (improved fit refit agree m (refit m))) (some m) n
     unfolding improved
     improve-none h = rw h (record { model = refl; rows-on = e })
 
-    pub improve-again : (r : Model) (k : ℕ) → k ≡ agree r → refit m ≡ some r → n ≤ k → Holds (some (improved fit refit agree m (refit m))) (some r) k
+    pub improve-again : (r : Model) (k : ℕ) → k ≡ agree r → refit m ≡ some r → n ≤ k → Holds fit refit agree (some (improved fit refit agree m (refit m))) (some r) k
     unfolding improved
     improve-again r k a h l =
         let t : agree m ≤ agree r = omega arith in
         rw (h, le-leb _ _ t) (record { model = refl; rows-on = a })
 
-    pub improve-kept : (r : Model) (k : ℕ) → k ≡ agree r → refit m ≡ some r → k < n → Holds (some (improved fit refit agree m (refit m))) (some m) n
+    pub improve-kept : (r : Model) (k : ℕ) → k ≡ agree r → refit m ≡ some r → k < n → Holds fit refit agree (some (improved fit refit agree m (refit m))) (some m) n
     unfolding improved
     improve-kept r k a h l =
         let t : agree r < agree m = omega arith in
@@ -36,18 +32,18 @@ module _ {Model Trial : Type 0} (fit : Trial → Option Model) (refit : Model �
 
   -- ---- what is held, after one more fit f
   module _ (have f : Option Model) (n : ℕ) (e : n ≡ count fit refit agree have) where
-    pub keep-none : f ≡ none → Holds (keep fit refit agree have f) have n
+    pub keep-none : f ≡ none → Holds fit refit agree (keep fit refit agree have f) have n
     unfolding keep
     keep-none b = rw b (record { model = refl; rows-on = e })
 
-    pub keep-held : (m : Model) → f ≡ some m → (k : ℕ) → k ≡ agree m → k ≤ n → Holds (keep fit refit agree have f) have n
+    pub keep-held : (m : Model) → f ≡ some m → (k : ℕ) → k ≡ agree m → k ≤ n → Holds fit refit agree (keep fit refit agree have f) have n
     unfolding keep keepIf
     keep-held m b k a l =
         let t : agree m ≤ count fit refit agree have = omega arith in
         rw (b, le-ltb _ _ t) (record { model = refl; rows-on = e })
 
     pub keep-new : (m : Model) → f ≡ some m → (k : ℕ) → k ≡ agree m → n < k → (new : Option Model) (j : ℕ)
-        → Holds (some (improved fit refit agree m (refit m))) new j → Holds (keep fit refit agree have f) new j
+        → Holds fit refit agree (some (improved fit refit agree m (refit m))) new j → Holds fit refit agree (keep fit refit agree have f) new j
     unfolding keep keepIf
     keep-new m b k a l new j d =
         let t : count fit refit agree have < agree m = omega arith in

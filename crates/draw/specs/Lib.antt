@@ -1,3 +1,4 @@
 pub mod Draw
 pub mod Best
+pub mod Holds
 pub mod Examples
