@@ -130,7 +130,7 @@ fn answer_all(s: &[u8]) {
 }
 
 fn main() {
-    let mut cases = [0u8; 524288];
+    let mut cases = [0u8; 1048576];
     let n = io::read_full(STDIN_FILENO, &mut cases);
     answer_all(&cases[..n]);
 }

@@ -1,5 +1,6 @@
 // The C face: every call of the solver under the name that bindings/c/moorspindle.h declares.
 ghost use mathlib.Core.Path.{_≡_};
+ghost use Prim.Native.Nat.{_≤_};
 ghost use lib.Ieee.{toSigned};
 ghost use lib.ListN.{length};
 ghost use Rattle.floats.specs.Magnitude.{magnitudeOf};
@@ -15,9 +16,12 @@ ghost use Rattle.quad_face.specs.Face.{startFace, startWritten, stepPlaces, ste
 ghost use Rattle.hash_index.specs.Matches.{matchesOf};
 ghost use Rattle.aggregate.specs.Extract.{given, room, pairXs, pairYs, pairRas, pairDecs, pairVotes, pairSnrs};
 ghost use Rattle.matching_face.specs.Face.{matchesFace, matchesCount, pairsFace, pairsCount};
+ghost use Rattle.verify_order.specs.Sorted.{sortedRows};
+ghost use Rattle.verify.specs.Score.{NoneBetter};
 ghost use Rattle.verify_face.specs.Face.{affineFace, affineWritten, inliersFace, inliersCount, scoreFace, scoreCount};
 ghost use Rattle.cd_run.specs.Run.{runAnswer, runNumber, maskAfter};
 ghost use Rattle.run_face.specs.Face.{testedAfter, onAfter};
+ghost use Rattle.run_face.specs.Demand.{Demanded};
 ghost use Rattle.cd_clip.specs.Clip.{clipNumber};
 ghost use Rattle.clip_face.specs.Face.{plateAfter, clipFace};
 ghost use Rattle.record.specs.Record.{recordText};
@@ -386,6 +390,8 @@ pub extern "C" fn moorspindle_verify_pairs(
         (scoreFace (rows (now (px .entry)) (now (py .entry)) (now (xi .entry)) (now (eta .entry))))
         (scoreCount (rows (now (px .entry)) (now (py .entry)) (now (xi .entry)) (now (eta .entry))))
         (now (score .entry)) ⌝ }
+    ensures best { λ r. ⌜ (r ≡ 0 → 3 ≤ length (now (px .entry))
+        → NoneBetter (sortedRows (rows (now (px .entry)) (now (py .entry)) (now (xi .entry)) (now (eta .entry)))) (now (score .exit))) ⌝ }
 {
     verify_face::verify_pairs(px, py, xi, eta, score)
 }
@@ -473,6 +479,8 @@ pub extern "C" fn moorspindle_ransac_fit(
     ensures on { λ r. ⌜ now (on .exit) ≡ onAfter
         (runAnswer (rows (now (px .entry)) (now (py .entry)) (now (xi .entry)) (now (eta .entry))) (now (votes .entry)) limit trials (length (now (mask .entry))))
         (now (on .entry)) ⌝ }
+    ensures demand { λ r. ⌜ Demanded (rows (now (px .entry)) (now (py .entry)) (now (xi .entry)) (now (eta .entry))) (now (votes .entry)) limit trials (length (now (mask .entry)))
+        r (now (tested .exit)) (now (on .exit)) (now (mask .exit)) ⌝ }
 {
     run_face::ransac_fit(px, py, xi, eta, votes, limit, trials, mask, tested, on)
 }

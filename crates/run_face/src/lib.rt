@@ -5,8 +5,10 @@ ghost use lib.ListN.{length};
 ghost use Rattle.rows.specs.Rows.{rows};
 ghost use Rattle.cd_run.specs.Run.{runAnswer, runNumber, maskAfter};
 ghost use Rattle.run_face.specs.Face.{testedAfter, onAfter};
+ghost use Rattle.run_face.specs.Demand.{Demanded};
 
 // The CD run over a mask, with whether it was tested and how many rows are on.
+// `demand` is the demand on the run, in what is handed out here: the number, `tested`, `on` and the mask.
 pub fn ransac_fit(
     px: &[f64],
     py: &[f64],
@@ -29,6 +31,8 @@ pub fn ransac_fit(
     ensures on { λ r. ⌜ now (on .exit) ≡ onAfter
         (runAnswer (rows (now (px .entry)) (now (py .entry)) (now (xi .entry)) (now (eta .entry))) (now (votes .entry)) limit trials (length (now (mask .entry))))
         (now (on .entry)) ⌝ }
+    ensures demand { λ r. ⌜ Demanded (rows (now (px .entry)) (now (py .entry)) (now (xi .entry)) (now (eta .entry))) (now (votes .entry)) limit trials (length (now (mask .entry)))
+        r (now (tested .exit)) (now (on .exit)) (now (mask .exit)) ⌝ }
 {
     match cd_run::ransac_fit(px, py, xi, eta, votes, limit, trials as usize, mask) {
         CdRun::Refused(why) => why.number(),

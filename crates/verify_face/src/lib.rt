@@ -10,6 +10,8 @@ ghost use Prim.Native.Nat.{_≤_};
 ghost use lib.ListN.{length};
 ghost use Rattle.answer.specs.Answers.{answerNumber, roomFor, lentAfter, numberAfter};
 ghost use Rattle.rows.specs.Rows.{rows};
+ghost use Rattle.verify_order.specs.Sorted.{sortedRows};
+ghost use Rattle.verify.specs.Score.{NoneBetter};
 ghost use Rattle.verify_face.specs.Face.{affineNumbers, affineIn, affineFace, affineWritten, inliersFace, inliersCount};
 ghost use Rattle.verify_face.specs.Face.{scoreFace, scoreCount};
 
@@ -104,13 +106,16 @@ pub fn count_affine_inliers(
     }
 }
 
-// The score of the rows: how many agree with the best affine of the draw.
+// The score of the rows: how many agree with the best affine of the draw. `best` says so of what is handed out: no drawn
+// triple that can be fitted has more rows.
 pub fn verify_pairs(px: &[f64], py: &[f64], xi: &[f64], eta: &[f64], score: &mut u64) -> u32
     ensures number { λ r. ⌜ r ≡ answerNumber (scoreFace (rows (now (px .entry)) (now (py .entry)) (now (xi .entry)) (now (eta .entry)))) ⌝ }
     ensures score { λ r. ⌜ now (score .exit) ≡ numberAfter
         (scoreFace (rows (now (px .entry)) (now (py .entry)) (now (xi .entry)) (now (eta .entry))))
         (scoreCount (rows (now (px .entry)) (now (py .entry)) (now (xi .entry)) (now (eta .entry))))
         (now (score .entry)) ⌝ }
+    ensures best { λ r. ⌜ (r ≡ 0 → 3 ≤ length (now (px .entry))
+        → NoneBetter (sortedRows (rows (now (px .entry)) (now (py .entry)) (now (xi .entry)) (now (eta .entry)))) (now (score .exit))) ⌝ }
 {
     match verify::verify_pairs(px, py, xi, eta) {
         Score::Refused(why) => why.number(),

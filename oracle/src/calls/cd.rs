@@ -113,6 +113,12 @@ const FIT_CD_MATRIX_6: Call = Call {
         for x in edges::around(1e-15).into_iter().chain([1.0000000000000001e-15]) {
             cases.push(fit_case(&RowLists::of(&[(x, 0.0, 1.0, 1.0)]), &[1], 6));
         }
+        // a determinant of 1e-30 and next to it: the sums of this cross keep each axis to itself
+        for scale in edges::around(1e-30) {
+            let cross = [(1.0, 0.0), (-1.0, 0.0), (0.0, 1.0), (0.0, -1.0)];
+            let rows = RowLists::of(&cross.map(|(x, y)| (x, y, scale * x, y)));
+            cases.push(fit_case(&rows, &[1; 4], 6));
+        }
         let refused = rows::refused();
         let refused = refused.iter().step_by(every.div_ceil(12));
         cases.extend(refused.map(|rows| fit_case(rows, &vec![1; rows.count()], 6)));
@@ -236,6 +242,11 @@ const COMPUTE_PIXEL_ERRORS: Call = Call {
             cases.push(errors_case(&plate, &[1; 3], &cd, 3));
             cases.push(errors_case(&plate, &[1; 2], &cd, 2));
             cases.push(errors_case(&plate, &[1; 101], &cd, 2));
+        }
+        for place in 0..6 {
+            let mut cd = plates()[0];
+            cd[place] = f64::INFINITY;
+            cases.push(errors_case(&plate, &[1; 3], &cd, 3));
         }
         let refused = rows::refused();
         let refused = refused.iter().step_by(every.div_ceil(5));

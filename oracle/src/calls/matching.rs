@@ -243,6 +243,7 @@ const EXTRACT_PAIRS: Call = Call {
             }
         }
         let mut cases: Vec<Case> = cases.into_iter().step_by(every.div_ceil(8) * 2 - 1).collect();
+        cases.extend(ballots().iter().map(|lists| pairs_case(lists, [3; 6])));
         let bad = bad_ballots();
         let bad = bad.iter().step_by(every.div_ceil(12));
         cases.extend(bad.map(|lists| pairs_case(lists, [4; 6])));

@@ -12,7 +12,7 @@ use crate::ours::matching::Rows;
 use crate::ours::run::{Draw, Ran};
 use crate::random::Random;
 use crate::rows::{self, Row, RowLists};
-use crate::{bench, ours, theirs};
+use crate::{bench, edges, ours, theirs};
 
 pub const GROUP: Group = Group {
     name: "run",
@@ -77,10 +77,8 @@ const RANSAC_FIT: Call = Call {
         let refused = rows::refused();
         let refused = refused.iter().step_by(every.div_ceil(5));
         cases.extend(refused.map(|rows| run_case(rows, &few, 1.0, 5, rows.count())));
-        // a hundred rows, as many as there may be
-        let mut random = Random::new(2, "a hundred");
-        let hundred = rows::random(&mut random, 100);
-        cases.push(run_case(&hundred, &[2; 100], 3.0, 1000, 100));
+        cases.extend(at_the_limit());
+        cases.extend(runs_of_a_hundred());
         cases
     },
     random: |random| {
@@ -112,6 +110,51 @@ fn square() -> RowLists {
         .collect();
     rows.extend([(20.0, 20.0, 21.0, 20.0), (70.0, 20.0, 70.0, 22.0), (10.0, 90.0, 90.0, 10.0)]);
     RowLists::of(&rows)
+}
+
+/// Errors at the limit, to the last bit of their squares; and limits that no rounding stays below.
+fn at_the_limit() -> Vec<Case> {
+    let grid: Vec<Row> = (0..9)
+        .map(|i| (f64::from(i % 3), f64::from(i / 3)))
+        .map(|(x, y)| (x, y, x, y))
+        .collect();
+    let with = |off: Row| RowLists::of(&[&grid[..], &[off]].concat());
+    // the squared error is 1; and the greatest float whose root is 1
+    let one = with((4.0, 1.0, 5.0, 1.0));
+    let most = with((4.0, 1.0, 5.0, 1.0 + 2f64.powi(-26)));
+    let mut cases = Vec::new();
+    for limit in edges::around(1.0) {
+        for rows in [&one, &most] {
+            cases.push(run_case(rows, &[3; 10], limit, 30, 10));
+        }
+    }
+    let mut random = Random::new(3, "no room for a rounding");
+    for limit in [0.0, 1e-16, 1e-15, 1e-13] {
+        for n in [3, 4, 6] {
+            for _ in 0..5 {
+                let rows: Vec<Row> = (0..n)
+                    .map(|_| [(); 4].map(|()| random.between(-9.0, 9.0)))
+                    .map(|[px, py, xi, eta]| (px, py, xi, eta))
+                    .collect();
+                cases.push(run_case(&RowLists::of(&rows), &vec![2; n], limit, 30, n));
+            }
+        }
+    }
+    cases
+}
+
+/// As many rows as there may be, with a hundred and with a thousand trials.
+fn runs_of_a_hundred() -> Vec<Case> {
+    let mut random = Random::new(2, "a hundred");
+    let mut cases = Vec::new();
+    for place in 0..44 {
+        let rows = rows::random(&mut random, 100);
+        let most = random.one_of(&[1, 3, 10, 60]);
+        let votes: Vec<u32> = (0..100).map(|_| 2 + random.below(most) as u32).collect();
+        let limit = random.one_of(&[0.0, 0.5, 1.0, 3.0, 10.0]);
+        cases.push(run_case(&rows, &votes, limit, [100, 1000][place % 2], 100));
+    }
+    cases
 }
 
 /// Votes of which none, one and so on up to n are at least a third of the greatest, and votes for
@@ -239,6 +282,11 @@ const SIGMA_CLIP: Call = Call {
         for weight in [5e-324, 1e-323, 1e-300, 0.0, 1.0] {
             cases.push(clip_case(&low, &[1; 3], &UNIT, &[weight; 3]));
         }
+        // where that sum is zero, what is left may be one row or two, which are not fitted
+        for left in [1, 2] {
+            let rows: Vec<Row> = (0..3).map(|i| (if i < left { 0.0 } else { 0.125 }, 0.0, 0.0, 0.0)).collect();
+            cases.push(clip_case(&RowLists::of(&rows), &[1; 3], &UNIT, &[5e-324; 3]));
+        }
         // one error among n: at nine rows it is the threshold itself, but for the roundings
         for n in [3, 8, 9, 10, 11, 20] {
             for error in [0.5, 0.1, 3.0] {
@@ -258,6 +306,11 @@ const SIGMA_CLIP: Call = Call {
             cases.push(clip_case(&rows, &[1; 3], &cd, &[1.0; 3]));
             cases.push(clip_case(&rows, &[1; 2], &cd, &[1.0; 3]));
             cases.push(clip_case(&rows, &[1; 101], &cd, &[1.0; 3]));
+        }
+        for place in 0..6 {
+            let mut cd = UNIT;
+            cd[place] = f64::INFINITY;
+            cases.push(clip_case(&rows, &[1; 3], &cd, &[1.0; 3]));
         }
         for mask in [vec![1, 1, 2], vec![1; 4], vec![0; 3], vec![1, 0, 1]] {
             cases.push(clip_case(&rows, &mask, &UNIT, &[1.0; 3]));

@@ -1,6 +1,8 @@
 -- `run_face::ransac_fit` meets its contract: the inner call decides, and its count is handed out where it is done. Assumes nothing.
 use mathlib.Core.Path.{refl}
 use borrow.Author.Needs.{needs}
+use Rattle.cd_run.specs.declared.CdRun.the-variants as run
+use Rattle.run_face.proofs.Terms.{demanded}
 use Rattle.run_face.proofs.ransac_fit.Statement.{statement}
 use Rattle.run_face.proofs.ransac_fit.Tie as tie
 
@@ -25,7 +27,8 @@ same-length c = search needs
 returns : tie.Need-returns
 returns c =
     let ran = c .before .before .before .before .before .before .ransac-fit .ensures in
-    rw (← ran .0, c .before .before .why .given .1) (c .number .ensures, (ran .1 .0, (refl, refl)))
+    let all = demanded _ _ _ _ _ _ _ (ran .1 .1 .0) (ran .1 .1 .1 .0) (ran .1 .1 .1 .1 .0) (ran .1 .1 .1 .1 .1) (run.Refused _) (c .before .before .why .given .1) _ (c .number .ensures) _ _ in
+    rw (← ran .0, c .before .before .why .given .1) (c .number .ensures, (ran .1 .0, (refl, (refl, all))))
 
 same-length-2 : tie.Need-same-length-2
 same-length-2 c = search needs
@@ -33,7 +36,8 @@ same-length-2 c = search needs
 returns-2 : tie.Need-returns-2
 returns-2 c =
     let ran = c .before .before .before .before .before .ransac-fit .ensures in
-    rw (← ran .0, c .before .count .given .1) (refl, (ran .1 .0, (refl, refl)))
+    let all = demanded _ _ _ _ _ _ _ (ran .1 .1 .0) (ran .1 .1 .1 .0) (ran .1 .1 .1 .1 .0) (ran .1 .1 .1 .1 .1) (run.Untested _) (c .before .count .given .1) _ refl 0 0 in
+    rw (← ran .0, c .before .count .given .1) (refl, (ran .1 .0, (refl, (refl, all))))
 
 same-length-3 : tie.Need-same-length-3
 same-length-3 c = search needs
@@ -41,7 +45,8 @@ same-length-3 c = search needs
 returns-3 : tie.Need-returns-3
 returns-3 c =
     let ran = c .before .before .before .before .before .ransac-fit .ensures in
-    rw (← ran .0, c .before .count2 .given .1) (refl, (ran .1 .0, (refl, refl)))
+    let all = demanded _ _ _ _ _ _ _ (ran .1 .1 .0) (ran .1 .1 .1 .0) (ran .1 .1 .1 .1 .0) (ran .1 .1 .1 .1 .1) (run.Fitted _) (c .before .count2 .given .1) _ refl 0 0 in
+    rw (← ran .0, c .before .count2 .given .1) (refl, (ran .1 .0, (refl, (refl, all))))
 
 pub ransac-fit-spec : {M : Type 1} → statement M
 ransac-fit-spec =
