@@ -4,13 +4,17 @@ use libc::STDOUT_FILENO;
 use scan::Place;
 use scan_digits::Number;
 ghost use mathlib.Core.Path.{_≡_};
-ghost use Prim.Native.Nat.{_≤_};
-ghost use lib.ListN.{length, take};
+ghost use Prim.Native.Nat.{_≤_, _%_};
+ghost use lib.ListN.{length, take, drop};
+ghost use Rattle.scan_digits.specs.Read.{readDecimal};
+ghost use Rattle.cases.specs.Fields.{afterSpace, fieldAfter, floatAt, numberAt, afterMember, memberAfter};
 
 // ---- fields
 
 // The place after the next space, or the end of the text.
-fn next_field(s: &[u8], at: usize) -> usize {
+fn next_field(s: &[u8], at: usize) -> usize
+    ensures { λ r. ⌜ r ≡ afterSpace (drop at (now (s .entry))) at ⌝ }
+{
     let mut p = at;
     while p < s.len() {
         if s[p] == 32 {
@@ -22,7 +26,9 @@ fn next_field(s: &[u8], at: usize) -> usize {
 }
 
 // The place of the field that is k after the one at a place.
-pub fn field(s: &[u8], at: usize, k: usize) -> usize {
+pub fn field(s: &[u8], at: usize, k: usize) -> usize
+    ensures { λ r. ⌜ r ≡ fieldAfter (now (s .entry)) at k ⌝ }
+{
     let mut p = at;
     for _ in 0..k {
         p = next_field(s, p);
@@ -31,7 +37,9 @@ pub fn field(s: &[u8], at: usize, k: usize) -> usize {
 }
 
 // The float at a place; NaN where no 16 digits stand there.
-pub fn float_at(s: &[u8], at: usize) -> f64 {
+pub fn float_at(s: &[u8], at: usize) -> f64
+    ensures { λ r. ⌜ r ≡ floatAt (now (s .entry)) at ⌝ }
+{
     match scan_digits::read_hex(s, at) {
         Number::Is(bits, _) => scan_digits::of_bits(bits),
         Number::Wrong(_) => 0.0 / 0.0,
@@ -57,7 +65,9 @@ fn after_float(s: &[u8], at: usize) -> usize {
 }
 
 // The number at a place; 0 where none stands there.
-pub fn number_at(s: &[u8], at: usize) -> u64 {
+pub fn number_at(s: &[u8], at: usize) -> u64
+    ensures { λ r. ⌜ r ≡ numberAt (now (s .entry)) at ⌝ }
+{
     match scan_digits::read_decimal(s, at) {
         Number::Is(n, _) => n,
         Number::Wrong(_) => 0,
@@ -72,7 +82,9 @@ fn is_number(s: &[u8], at: usize) -> bool {
 }
 
 // The place after the number at a place and the comma behind it, or the end of the text.
-fn after_number(s: &[u8], at: usize) -> usize {
+fn after_number(s: &[u8], at: usize) -> usize
+    ensures { λ r. ⌜ r ≡ afterMember (now (s .entry)) (readDecimal (drop at (now (s .entry))) at) ⌝ }
+{
     let Number::Is(_, p) = scan_digits::read_decimal(s, at) else {
         return s.len();
     };
@@ -83,7 +95,9 @@ fn after_number(s: &[u8], at: usize) -> usize {
 }
 
 // The place of the member that is k after the one at a place, in a list of numbers.
-pub fn member(s: &[u8], at: usize, k: usize) -> usize {
+pub fn member(s: &[u8], at: usize, k: usize) -> usize
+    ensures { λ r. ⌜ r ≡ memberAfter (now (s .entry)) at k ⌝ }
+{
     let mut p = at;
     for _ in 0..k {
         p = after_number(s, p);
@@ -91,11 +105,15 @@ pub fn member(s: &[u8], at: usize, k: usize) -> usize {
     p
 }
 
-pub fn byte_at(s: &[u8], at: usize) -> u8 {
+pub fn byte_at(s: &[u8], at: usize) -> u8
+    ensures { λ r. ⌜ r ≡ numberAt (now (s .entry)) at % 256 ⌝ }
+{
     (number_at(s, at) % 256) as u8
 }
 
-pub fn word_at(s: &[u8], at: usize) -> u32 {
+pub fn word_at(s: &[u8], at: usize) -> u32
+    ensures { λ r. ⌜ r ≡ numberAt (now (s .entry)) at % 4294967296 ⌝ }
+{
     (number_at(s, at) % 4294967296) as u32
 }
 
@@ -217,22 +235,30 @@ pub fn ids_at(s: &[u8], at: usize, out: &mut [i64]) -> usize
 
 // ---- answers
 
-pub fn print_number(n: u64) {
+pub fn print_number(n: u64)
+    ensures { λ r. ⌜ r ≡ tt ⌝ }
+{
     io::print_decimal(STDOUT_FILENO, n);
 }
 
 // Between two fields.
-pub fn print_space() {
+pub fn print_space()
+    ensures { λ r. ⌜ r ≡ tt ⌝ }
+{
     io::write_all(STDOUT_FILENO, b" ");
 }
 
 // A number after the field before it.
-pub fn print_field(n: u64) {
+pub fn print_field(n: u64)
+    ensures { λ r. ⌜ r ≡ tt ⌝ }
+{
     print_space();
     print_number(n);
 }
 
-pub fn print_end() {
+pub fn print_end()
+    ensures { λ r. ⌜ r ≡ tt ⌝ }
+{
     io::write_all(STDOUT_FILENO, b"\n");
 }
 
@@ -254,7 +280,9 @@ fn wide(b: u8) -> u64 {
     b as u64
 }
 
-pub fn print_bytes(list: &[u8]) {
+pub fn print_bytes(list: &[u8])
+    ensures { λ r. ⌜ r ≡ tt ⌝ }
+{
     print_space();
     print_empty(list.len());
     for i in 0..list.len() {
@@ -267,7 +295,9 @@ fn wide_u32(n: u32) -> u64 {
     n as u64
 }
 
-pub fn print_u32s(list: &[u32]) {
+pub fn print_u32s(list: &[u32])
+    ensures { λ r. ⌜ r ≡ tt ⌝ }
+{
     print_space();
     print_empty(list.len());
     for i in 0..list.len() {
@@ -276,7 +306,9 @@ pub fn print_u32s(list: &[u32]) {
     }
 }
 
-pub fn print_words(list: &[u64]) {
+pub fn print_words(list: &[u64])
+    ensures { λ r. ⌜ r ≡ tt ⌝ }
+{
     print_space();
     print_empty(list.len());
     for i in 0..list.len() {
@@ -285,11 +317,15 @@ pub fn print_words(list: &[u64]) {
     }
 }
 
-pub fn print_float(x: f64) {
+pub fn print_float(x: f64)
+    ensures { λ r. ⌜ r ≡ tt ⌝ }
+{
     io::print_hex(STDOUT_FILENO, digits::bits_of(x), 16);
 }
 
-pub fn print_floats(list: &[f64]) {
+pub fn print_floats(list: &[f64])
+    ensures { λ r. ⌜ r ≡ tt ⌝ }
+{
     print_space();
     print_empty(list.len());
     for i in 0..list.len() {

@@ -1,18 +1,21 @@
--- `cases::next_field` is safe and returns, and meets its contract where it has one. Assumes nothing.
+-- `cases::next_field` meets its contract: the loop's invariant: the next space is that from here. Assumes nothing.
 use borrow.Author.Needs.{needs}
-use Prim.Native.Nat.{_≤_, _-_}
-use lib.ListN.{length}
+use mathlib.Core.Path.{_≡_, refl, _∙_}
+use Prim.Native.Nat.{_-_}
+use lib.ListN.{length, drop}
+use Rattle.cases.specs.Fields.{afterSpace}
+use Rattle.cases.proofs.Reading.{space-more, space-found, space-none}
 use Rattle.cases.proofs.next_field.Statement.{statement}
 use Rattle.cases.proofs.next_field.Tie as tie
 
 abbrev Inv-loop : tie.InvT-loop
-Inv-loop s at p₀ p = 0 ≤ p
+Inv-loop s at p₀ p = afterSpace (drop p s) p ≡ afterSpace (drop at s) at
 
 abbrev μ-loop : tie.MeasureT-loop
 μ-loop s at p₀ p = length s - p
 
 loop-holds : tie.Need-loop-holds Inv-loop μ-loop
-loop-holds c = search needs
+loop-holds c = refl
 
 shared-slice-read-if1 : tie.Need-shared-slice-read-if1 Inv-loop μ-loop
 shared-slice-read-if1 c = search needs
@@ -21,7 +24,7 @@ add-result : tie.Need-add-result Inv-loop μ-loop
 add-result c = search needs
 
 returns : tie.Need-returns Inv-loop μ-loop
-returns c = search needs
+returns c = space-found _ _ (c .before .before .loop-test .taken) (c .if1 .taken) ∙ c .before .before .before .loop .inv
 
 add-p : tie.Need-add-p Inv-loop μ-loop
 add-p c = search needs
@@ -30,10 +33,10 @@ loop-less : tie.Need-loop-less Inv-loop μ-loop
 loop-less c = search needs
 
 loop-again : tie.Need-loop-again Inv-loop μ-loop
-loop-again c = search needs
+loop-again c = space-more _ _ (c .before .before .loop-test .taken) (c .if1 .left) ∙ c .before .before .before .loop .inv
 
 returns-2 : tie.Need-returns-2 Inv-loop μ-loop
-returns-2 c = search needs
+returns-2 c = space-none _ _ (c .loop-test .left) ∙ c .before .loop .inv
 
 pub next-field-spec : {M : Type 1} → statement M
 next-field-spec =
