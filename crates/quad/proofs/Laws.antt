@@ -88,7 +88,7 @@ pub no-room-h : (n room room-h : ℕ) → n ≤ room → room-h < n → quads.Re
 unfolding roomAnswer
 no-room-h n room room-h g h = rw (le-ltb room n g, lt-ltb room-h n h)
 
-has-room : (n room room-h : ℕ) → n ≤ room → n ≤ room-h → quads.Found (n / 4) ≡ roomAnswer n room room-h
+pub has-room : (n room room-h : ℕ) → n ≤ room → n ≤ room-h → quads.Found (n / 4) ≡ roomAnswer n room room-h
 unfolding roomAnswer
 has-room n room room-h g h = rw (le-ltb room n g, le-ltb room-h n h)
 

@@ -1,3 +1,4 @@
 pub mod Reading
 pub mod Printing
 pub mod Whole
+pub mod Status

@@ -1,12 +1,12 @@
 -- Laws of the whole program: the text for quads that were found, for a refusal, and for a text that is not in form.
 use mathlib.Core.Path.{_≡_, refl, sym, _∙_, ap}
 use mathlib.Core.Bool.{Bool, true, false, cond, _||_}
-use mathlib.Core.List.{List, [], _∷_, _++_}
+use mathlib.Core.List.{List, [], _∷_, _++_, append-nil}
 use Prim.Native.Nat.{ℕ, _*_, _/_, _≤_}
 use native.Mathlib.Omega.{arith}
 use borrow.Author.Tests.{ltb-false}
 use lib.Dec.{ltb}
-use lib.ListN.{length, take, drop, length-append}
+use lib.ListN.{length, take, drop, length-append, length-take}
 use lib.Seq.{take-at, drop-at}
 use lib.Ieee.{Float}
 use Rattle.put.specs.Put.{Put}
@@ -20,11 +20,12 @@ use Rattle.quad.specs.declared.Quads.{Quads}
 use Rattle.quad.specs.declared.Quads.the-variants as quads
 use Rattle.quad.specs.Quads.{quadOf, placesIn, hashIn, allPlaces, allHashes, quadPlaces, quadHashes, inputAnswer, roomAnswer, answerAfter, quadsAnswer, lentAfterQuads}
 use Rattle.quad.proofs.Laws.{as-long}
+use Rattle.quad.proofs.Few.{fourteen, room-for-all}
 use Rattle.quad_program.specs.declared.Parsed.{Parsed}
 use Rattle.quad_program.specs.declared.Parsed.the-variants as outcome
 use Rattle.quad_program.specs.Form.{parsed, formIn}
-use Rattle.quad_program.specs.Print.{allLines, statusLine, foundText, printed}
-use Rattle.quad_program.specs.Program.{quadsText, programText}
+use Rattle.quad_program.specs.Print.{allLines, statusLine, foundText, linesOf}
+use Rattle.quad_program.specs.Program.{quadsOf, statusOf, quadsLines, quadsText, programText}
 use Rattle.quad_program.proofs.Printing.{lines-front}
 
 -- ---- quads that were found
@@ -63,37 +64,46 @@ hashes-long : (xs ys : List Float) (k : ℕ) (least : Float) → length (quadHas
 unfolding quadPlaces quadHashes
 hashes-long xs ys k least = simp all-as-long
 
+-- with room for 4,004 places and as many hash numbers the answer for at most 14 stars is never number 7
+room-for-14 : (xs ys : List Float) (k : ℕ) (least : Float) → length xs ≤ 14 → quadsAnswer xs ys k least 4004 4004 ≡ quadsOf xs ys k least
+unfolding quadsOf
+room-for-14 xs ys k least h = room-for-all xs ys k least 4004 4004 (fourteen xs ys k least h) (fourteen xs ys k least h)
+
 -- the text for quads that were written from the front of two lists
-pub found-text : (xs ys : List Float) (k : ℕ) (least : Float) (r : Quads) (n : ℕ) (ps₀ ps : List ℕ) (hs₀ hs : List Float) → r ≡ quads.Found n
+pub found-text : (xs ys : List Float) (k : ℕ) (least : Float) (r : Quads) (n : ℕ) (ps₀ ps : List ℕ) (hs₀ hs : List Float) → length xs ≤ 14 → r ≡ quads.Found n
     → r ≡ quadsAnswer xs ys k least 4004 4004
     → ps ≡ lentAfterQuads r (quadPlaces xs ys k least) ps₀ → hs ≡ lentAfterQuads r (quadHashes xs ys k least) hs₀
     → foundText n ps hs ≡ quadsText xs ys k least
-unfolding quadsText printed foundText
-found-text xs ys k least r n ps₀ ps hs₀ hs f e p h =
+unfolding quadsText quadsLines linesOf foundText
+found-text xs ys k least r n ps₀ ps hs₀ hs few f e p h =
     let b = found-few xs ys k least n (sym e ∙ f) in
     let us = quadPlaces xs ys k least in
     let vs = quadHashes xs ys k least in
     let l : allLines n (us ++ drop (length us) ps₀) (vs ++ drop (length vs) hs₀) ≡ allLines n us vs = lines-front n us (drop (length us) ps₀) vs (drop (length vs) hs₀) (b .1) (omega (arith, b .1, hashes-long xs ys k least)) in
-    rw (p, h, ← e, f, l)
+    rw (p, h, ← room-for-14 xs ys k least few, ← e, f, l)
 
 -- the text for a refusal
-pub refused-text : (xs ys : List Float) (k : ℕ) (least : Float) (r : Quads) (why : Refusal) (n : ℕ) → r ≡ quads.Refused why
+pub refused-text : (xs ys : List Float) (k : ℕ) (least : Float) (r : Quads) (why : Refusal) (n : ℕ) → length xs ≤ 14 → r ≡ quads.Refused why
     → r ≡ quadsAnswer xs ys k least 4004 4004 → n ≡ numberOf why → statusLine n ≡ quadsText xs ys k least
-unfolding quadsText printed
-refused-text xs ys k least r why n f e h = rw (h, ← e, f)
+unfolding quadsText quadsLines linesOf
+refused-text xs ys k least r why n few f e h = rw (h, ← room-for-14 xs ys k least few, ← e, f) (sym (append-nil (statusLine (numberOf why))))
 
 -- ---- what a text says
 
 -- the text for one that is not in form
 pub wrong-text : (s : List ℕ) (r : Parsed) (xs ys : List Float) (n : ℕ) → r ≡ outcome.Wrong → formIn r xs ys ≡ parsed s → n ≡ numberOf refusal.Form → statusLine n ≡ programText s
-unfolding programText
-wrong-text s r xs ys n e f h = rw (← f, e, h)
+unfolding programText statusOf
+wrong-text s r xs ys n e f h = rw (← f, e, h) (sym (append-nil (statusLine (numberOf refusal.Form))))
 
 -- the text for one that is
 pub says-text : (s : List ℕ) (r : Parsed) (xs ys : List Float) (k : ℕ) (least : Float) (n : ℕ) → r ≡ outcome.Input k least n → formIn r xs ys ≡ parsed s
     → quadsText (take n xs) (take n ys) k least ≡ programText s
-unfolding programText
+unfolding programText statusOf quadsText
 says-text s r xs ys k least n e f = rw (← f, e)
+
+-- at most 14 stars are in the front of the lists that so many were read into
+pub few-front : (n : ℕ) (xs : List Float) → n ≤ 14 → length (take n xs) ≤ 14
+few-front n xs h = rw length-take (omega arith)
 
 -- a text at the front of the buffer: it is there, so long, and what comes after it is as it was
 pub at-front : (t u old new : List ℕ) (r : ℕ) → t ≡ u → length old ≡ 42100 → r ≤ 42100 → Put old 0 t r new

@@ -7,9 +7,10 @@ use Rattle.scan_digits.specs.Read.{hexValue, readHex, decimalValue, moreDecimal
 use Rattle.scan.specs.Read.{readBytes}
 use Rattle.digits.specs.Digits.{hexFrom, decimalFrom, decimalOf}
 use Rattle.text.specs.Lines.{decimalLine}
+use Rattle.quad.specs.Quads.{inputAnswer}
 use Rattle.quad_program.specs.Form.{Form, hexField, decimalField, starOf, starsFrom, parsed}
-use Rattle.quad_program.specs.Print.{numbered, placesLine, keyLine, statusLine}
-use Rattle.quad_program.specs.Program.{programText}
+use Rattle.quad_program.specs.Print.{numbered, placesLine, keyLine, statusLine, linesOf}
+use Rattle.quad_program.specs.Program.{quadsOf, statusOf, quadsLines, programText}
 
 -- a text with one star: "k=3", "min_spine_sq=0000000000000000" and "star=0000000000000000,3ff0000000000000", a line each
 abbrev oneStar : List ℕ
@@ -30,8 +31,13 @@ leading-zero = refl
 
 -- and for one that is not, such as the empty one, "status=10" is printed
 not-in-form : programText [] ≡ 115 ∷ 116 ∷ 97 ∷ 116 ∷ 117 ∷ 115 ∷ 61 ∷ 49 ∷ 48 ∷ 10 ∷ []
-unfolding programText statusLine decimalLine decimalOf decimalFrom parsed decimalField hexField readBytes readDecimal moreDecimal decimalValue readHex hexValue starsFrom starOf
+unfolding programText statusOf statusLine decimalLine decimalOf decimalFrom parsed decimalField hexField readBytes readDecimal moreDecimal decimalValue readHex hexValue starsFrom starOf
 not-in-form = refl
+
+-- for "k=11" and "min_spine_sq=0000000000000000", a line each, which is in form, "status=1" is printed
+eleven-neighbours : programText (107 ∷ 61 ∷ 49 ∷ 49 ∷ 10 ∷ 109 ∷ 105 ∷ 110 ∷ 95 ∷ 115 ∷ 112 ∷ 105 ∷ 110 ∷ 101 ∷ 95 ∷ 115 ∷ 113 ∷ 61 ∷ 48 ∷ 48 ∷ 48 ∷ 48 ∷ 48 ∷ 48 ∷ 48 ∷ 48 ∷ 48 ∷ 48 ∷ 48 ∷ 48 ∷ 48 ∷ 48 ∷ 48 ∷ 48 ∷ 10 ∷ []) ≡ 115 ∷ 116 ∷ 97 ∷ 116 ∷ 117 ∷ 115 ∷ 61 ∷ 49 ∷ 10 ∷ []
+unfolding programText statusOf statusLine decimalLine decimalOf decimalFrom parsed decimalField hexField readBytes readDecimal moreDecimal decimalValue readHex hexValue starsFrom starOf quadsOf inputAnswer quadsLines linesOf
+eleven-neighbours = refl
 
 -- the line "quad=0,3,1,2"
 places : placesLine 0 3 1 2 ≡ 113 ∷ 117 ∷ 97 ∷ 100 ∷ 61 ∷ 48 ∷ 44 ∷ 51 ∷ 44 ∷ 49 ∷ 44 ∷ 50 ∷ 10 ∷ []

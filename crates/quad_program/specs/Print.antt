@@ -5,7 +5,6 @@ use lib.ListN.{getD, drop}
 use lib.Ieee.{Float, nan}
 use Rattle.digits.specs.Digits.{hexFrom, decimalOf}
 use Rattle.text.specs.Lines.{decimalLine}
-use Rattle.answer.specs.Answers.{numberOf}
 use Rattle.quad_key.specs.declared.Hash.{Hash}
 use Rattle.quad_key.specs.Key.{keyOf}
 use Rattle.quad.specs.declared.Quads.{Quads}
@@ -61,7 +60,7 @@ statusLine n = decimalLine statusName n
 unfoldable pub foundText : ℕ → List ℕ → List Float → List ℕ
 foundText n ps hs = statusLine 0 ++ (decimalLine quadsName n ++ allLines n ps hs)
 
--- the text for an answer: a refusal prints its number only
-unfoldable pub printed : Quads → List ℕ → List Float → List ℕ
-printed (quads.Found n) ps hs = foundText n ps hs
-printed (quads.Refused why) ps hs = statusLine (numberOf why)
+-- the lines after the number of an answer: how many quads were found, and the lines of each; a refusal has none
+unfoldable pub linesOf : Quads → List ℕ → List Float → List ℕ
+linesOf (quads.Found n) ps hs = decimalLine quadsName n ++ allLines n ps hs
+linesOf (quads.Refused why) ps hs = []

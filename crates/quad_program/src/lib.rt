@@ -216,9 +216,9 @@ fn put_found(buf: &mut [u8], n: usize, places: &[u8], hashes: &[f64]) -> usize
     put_quads(buf, q, n, places, hashes)
 }
 
-// Finds the quads of the stars and puts the text for them. The room is that of 1,001 quads.
+// Finds the quads of at most 14 stars and puts the text for them. The room is that of 1,001 quads, which is enough.
 fn put_answer(buf: &mut [u8], xs: &[f64], ys: &[f64], k: usize, least: f64) -> usize
-    requires { ⌜ 42100 ≤ length (now buf) ⌝ }
+    requires { ⌜ (42100 ≤ length (now buf)) × (length (now xs) ≤ 14) ⌝ }
     ensures { λ r. ⌜ Put (now (buf .entry)) 0 (quadsText (now (xs .entry)) (now (ys .entry)) k least) r (now (buf .exit)) × (r ≤ 42100) ⌝ }
 {
     let mut places = [0u8; 4004];

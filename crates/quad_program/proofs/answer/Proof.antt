@@ -1,5 +1,5 @@
 -- `quad_program::answer` meets its contract: what the text says decides which text is put at the front of the buffer.
-use Rattle.quad_program.proofs.Whole.{wrong-text, says-text, at-front}
+use Rattle.quad_program.proofs.Whole.{wrong-text, says-text, at-front, few-front}
 use lib.Seq.{length-take-le}
 use lib.ListN.{length}
 use denote.Ref.{now}
@@ -43,7 +43,7 @@ slice-aggregate-put-answer-2 : tie.Need-slice-aggregate-put-answer-2
 slice-aggregate-put-answer-2 c = sym (length-take-le _ _ (omega (arith, rw (c .before .before .before .before .k .given .1) at (c .before .before .before .before .before .before .before .before .parse .ensures .1), c .before .before .before .before .before .before .before .before .parse .kept .1 .1 .0)))
 
 put-answer-requires : tie.Need-put-answer-requires
-put-answer-requires c κs = search needs
+put-answer-requires c κs = (search needs, few-front _ _ (rw (c .before .before .before .before .k .given .1) at (c .before .before .before .before .before .before .before .before .parse .ensures .1)))
 
 returns : tie.Need-returns
 returns c = let l : length (now (c .before .before .before .before .before .before .before .before .before .before .before .args .out)) ≡ 42100 = search needs in at-front _ _ _ _ _ (wrong-text _ _ _ _ _ (c .before .before .before .enum-told .given .1) (c .before .before .before .before .before .before .before .parse .ensures .0) (c .before .number .ensures)) l (omega (arith, c .put-status .ensures .1)) (c .put-status .ensures .0)

@@ -1,4 +1,4 @@
--- `quad_program::put_answer` meets its contract: the answer decides which text it is; there is room, since at most 1,001 quads are found.
+-- `quad_program::put_answer` meets its contract: the answer decides which text it is; there is room, since at most 14 stars have at most 1,001 quads.
 use Rattle.quad_program.proofs.Whole.{found-few, found-text, refused-text}
 use Rattle.put.proofs.Writing.{same-text}
 use native.Mathlib.Omega.{arith}
@@ -41,14 +41,14 @@ same-length : tie.Need-same-length
 same-length c = search needs
 
 returns : tie.Need-returns
-returns c = (same-text (refused-text _ _ _ _ _ _ _ (c .before .before .before .before .before .before .why .given .1) (c .before .before .before .before .before .before .before .before .before .before .neighbor-quads .ensures .0) (c .before .before .before .number .ensures)) (c .before .before .put-status .ensures .0), omega (arith, c .before .before .put-status .ensures .1))
+returns c = (same-text (refused-text _ _ _ _ _ _ _ (c .before .before .before .before .before .before .before .before .before .before .before .before .before .before .before .before .pre .1) (c .before .before .before .before .before .before .why .given .1) (c .before .before .before .before .before .before .before .before .before .before .neighbor-quads .ensures .0) (c .before .before .before .number .ensures)) (c .before .before .put-status .ensures .0), omega (arith, c .before .before .put-status .ensures .1))
 
 same-length-2 : tie.Need-same-length-2
 same-length-2 c = search needs
 
 returns-2 : tie.Need-returns-2
 returns-2 c = let b = found-few _ _ _ _ _ (sym (c .before .before .before .before .before .before .before .before .before .before .before .neighbor-quads .ensures .0) ∙ c .before .before .before .before .before .before .before .n .given .1) in
-    (same-text (found-text _ _ _ _ _ _ _ _ _ _ (c .before .before .before .before .before .before .before .n .given .1) (c .before .before .before .before .before .before .before .before .before .before .before .neighbor-quads .ensures .0) (c .before .before .before .before .before .before .before .before .before .before .before .neighbor-quads .ensures .1 .0) (c .before .before .before .before .before .before .before .before .before .before .before .neighbor-quads .ensures .1 .1)) (c .before .before .put-found .ensures .0), omega (arith, b .0, c .before .before .put-found .ensures .1))
+    (same-text (found-text _ _ _ _ _ _ _ _ _ _ (c .before .before .before .before .before .before .before .before .before .before .before .before .before .before .before .before .before .pre .1) (c .before .before .before .before .before .before .before .n .given .1) (c .before .before .before .before .before .before .before .before .before .before .before .neighbor-quads .ensures .0) (c .before .before .before .before .before .before .before .before .before .before .before .neighbor-quads .ensures .1 .0) (c .before .before .before .before .before .before .before .before .before .before .before .neighbor-quads .ensures .1 .1)) (c .before .before .put-found .ensures .0), omega (arith, b .0, c .before .before .put-found .ensures .1))
 
 pub put-answer-spec : {M : Type 1} → statement M
 put-answer-spec =
