@@ -29,6 +29,20 @@ impl Affine {
     // No row agrees with an affine of a smaller determinant.
     pub const LEAST_INVERTED: f64 = 1e-30;
 
+    // By its numbers. Every affine is made here.
+    pub fn new(a11: f64, a12: f64, tx: f64, a21: f64, a22: f64, ty: f64) -> Affine
+        ensures { λ r. ⌜ r ≡ record { a11 = a11; a12 = a12; tx = tx; a21 = a21; a22 = a22; ty = ty } ⌝ }
+    {
+        Affine {
+            a11,
+            a12,
+            tx,
+            a21,
+            a22,
+            ty,
+        }
+    }
+
     // The affine of three rows whose determinant is given.
     fn of(p: Row, q: Row, r: Row, area: f64) -> Affine
         ensures { λ v. ⌜ v ≡ affineOf p q r area ⌝ }
@@ -40,14 +54,7 @@ impl Affine {
         let a22 = ((r.eta - p.eta) * (q.px - p.px) - (q.eta - p.eta) * (r.px - p.px)) * inv;
         let tx = p.xi - a11 * p.px - a12 * p.py;
         let ty = p.eta - a21 * p.px - a22 * p.py;
-        Affine {
-            a11,
-            a12,
-            tx,
-            a21,
-            a22,
-            ty,
-        }
+        Affine::new(a11, a12, tx, a21, a22, ty)
     }
 }
 

@@ -2,15 +2,13 @@
 use mathlib.Core.Path.{_≡_, refl, ap, _∙_}
 use mathlib.Core.Logic.{_⊎_, inl, inr, ⊎-elim}
 use mathlib.Core.Bool.{Bool, true, false, cond, not}
-use mathlib.Core.List.{List, [], _∷_, _++_}
+use mathlib.Core.List.{List}
 use Prim.Native.Nat.{ℕ, zero, suc, _≤_, _<_}
-use native.Mathlib.Nat.{eq-or-lt-of-le, le-of-suc-le-suc, not-le-of-lt, lt-of-not-le}
+use native.Mathlib.Nat.{le-of-suc-le-suc, not-le-of-lt, lt-of-not-le}
 use native.Mathlib.Decide.{decLt}
-use native.Mathlib.Omega.{arith}
 use borrow.Author.Tests.{ltb-false}
 use lib.Dec.{ltb, eqb}
-use lib.ListN.{length, getD, List·getD-append, List·getD-eq-default}
-use lib.Seq.{getD-at}
+use lib.ListN.{length, getD, List·getD-eq-default}
 use lib.Ieee.{Float}
 use Rattle.answer.specs.declared.Refusal.{Refusal}
 use Rattle.answer.specs.declared.Answer.{Answer}
@@ -20,8 +18,7 @@ use Rattle.cd_plate.specs.declared.Cd.{Cd}
 use Rattle.cd_plate.specs.Plate.{inverseOf}
 use Rattle.cd_plate.specs.Errors.{errorsOf}
 use Rattle.cd_plate.specs.Masked.{isOn}
-use Rattle.cd_plate.specs.Filled.{filled}
-use Rattle.cd_plate.proofs.Filling.{filled-length}
+use Rattle.cd_plate.proofs.Filling.{filled-length, filled-at}
 use Rattle.cd_mask.specs.Marks.{ones}
 use Rattle.cd_fit.specs.declared.CdFit.{CdFit}
 use Rattle.cd_fit.specs.declared.CdFit.the-variants as fit
@@ -29,16 +26,6 @@ use Rattle.cd_round.specs.declared.Clip.{Clip}
 use Rattle.cd_round.specs.Round.{rootsOf, squaresTo, clipOf, isRejected, anyRejected, byteLeft, maskLeft}
 use Rattle.cd_clip.specs.declared.Clipped.the-variants as clipped
 use Rattle.cd_clip.specs.Clip.{refitOf, Round, Last, Refitted, roundOf, Ended, ended, after, clipFrom, clipTests, endedAfter, sigmaClip}
-
--- the element of a filled list at a place
-filled-at : {A : Type 0} (f : ℕ → A) (n i : ℕ) (d : A) → i < n → getD (filled f n) i d ≡ f i
-unfolding filled
-filled-at f zero i d h = absurd (omega arith)
-filled-at f (suc n) i d h = go (eq-or-lt-of-le (le-of-suc-le-suc h)) (λ l. filled-at f n i d l)
-  where
-    go : (i ≡ n) ⊎ (i < n) → (i < n → getD (filled f n) i d ≡ f i) → getD (filled f n ++ (f n ∷ [])) i d ≡ f i
-    go (inl e) before = rw e (getD-at (filled f n) (f n) [] d n (filled-length f n))
-    go (inr l) before = List·getD-append (filled f n) (f n ∷ []) d i (rw (filled-length f n) l) ∙ before l
 
 -- ---- a mask only falls
 

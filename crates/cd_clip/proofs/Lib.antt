@@ -1,3 +1,4 @@
+pub mod Loops
 pub mod Rounds
 pub mod Passed
 pub mod Kept

@@ -42,8 +42,9 @@ fn refit(px: &[f64], py: &[f64], xi: &[f64], eta: &[f64], mask: &[u8], weights: 
     cd_fit::solve_both(cd_sums::sum_weighted(px, py, xi, eta, mask, weights))
 }
 
-// The rounds, with the roots of the weights and a place for each error. They are left where fewer than
-// three rows are on, where none is rejected, and where fewer than three are left.
+// The rounds, with the roots of the weights and a place for each error. Each goes over the rows twice,
+// since what it rejects by comes of all their errors. They are left where fewer than three rows are on,
+// where none is rejected, and where fewer than three are left.
 fn clip_rounds(
     px: &[f64],
     py: &[f64],
@@ -60,18 +61,37 @@ fn clip_rounds(
     ensures { λ r. ⌜ ended r (now (mask .exit)) ≡ clipFrom 10
         (rows (now (px .entry)) (now (py .entry)) (now (xi .entry)) (now (eta .entry))) (now (weights .entry)) (now (mask .entry)) start ⌝ }
 {
+    let n = px.len();
     let mut cd = start;
     'rounds: for _ in 0..Clip::ROUNDS {
-        cd_plate::put_errors(px, py, xi, eta, mask, cd.inverse(), errors);
-        let on = cd_mask::count_on(mask);
+        let v = cd.inverse();
+        let mut sum = 0.0;
+        let mut on = 0usize;
+        for i in 0..n {
+            let b = mask[i];
+            let e = cd_plate::error_if(b == 1, v, rows::row_at(px, py, xi, eta, i));
+            errors[i] = e;
+            sum = cd_round::with_square_if(sum, b == 1, weights[i], e);
+            on += cd_mask::is_on(b);
+        }
         if on < Clip::LEAST_ROWS {
             break 'rounds;
         }
-        let clip = Clip::of(cd_round::sum_squares(errors, weights, mask), on);
-        if !cd_round::reject(errors, roots, mask, clip) {
+        let clip = Clip::of(sum, on);
+        let mut any = false;
+        let mut left = 0usize;
+        for i in 0..n {
+            let b = mask[i];
+            let out = clip.rejects(b == 1, errors[i], roots[i]);
+            let kept = cd_round::byte_left(out, b);
+            mask[i] = kept;
+            any = any | out;
+            left += cd_mask::is_on(kept);
+        }
+        if !any {
             break 'rounds;
         }
-        if cd_mask::count_on(mask) < Clip::LEAST_ROWS {
+        if left < Clip::LEAST_ROWS {
             break 'rounds;
         }
         let CdFit::Plate(next) = refit(px, py, xi, eta, mask, weights) else {

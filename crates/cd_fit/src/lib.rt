@@ -37,14 +37,7 @@ impl CdFit {
 fn plate_in(x: &[f64; 3], y: &[f64; 3]) -> Cd
     ensures { λ r. ⌜ r ≡ plateIn (now (x .entry)) (now (y .entry)) ⌝ }
 {
-    Cd {
-        cd1_1: x[0],
-        cd1_2: x[1],
-        xi0: x[2],
-        cd2_1: y[0],
-        cd2_2: y[1],
-        eta0: y[2],
-    }
+    Cd::new(x[0], x[1], x[2], y[0], y[1], y[2])
 }
 
 // A plate whose determinant's magnitude is above the least, or refusal 8; NaN is not above.

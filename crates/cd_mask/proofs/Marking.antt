@@ -31,6 +31,12 @@ unfolding ones
 ones-append [] b = sym (zero-add (ones b))
 ones-append (x ∷ a) b = ap (λ n. byteOf (eqb x 1) + n) (ones-append a b) ∙ sym (add-assoc _ (ones a) (ones b))
 
+-- at most how many there are
+pub ones-few : (bs : List ℕ) → ones bs ≤ length bs
+unfolding ones
+ones-few [] = le-refl 0
+ones-few (b ∷ bs) = omega (arith, byte-le (eqb b 1), ones-few bs)
+
 -- those from the place i on
 pub ones-at : (bs : List ℕ) (i : ℕ) → i < length bs → ones (drop i bs) ≡ byteOf (eqb (getD bs i 0) 1) + ones (drop (i + 1) bs)
 unfolding ones

@@ -7,7 +7,7 @@ ghost use Rattle.answer.specs.Answers.{written};
 ghost use Rattle.cd_mask.specs.Marks.{byteOf, ones};
 
 // 1 of a byte that is one, 0 of any other.
-fn is_on(b: u8) -> usize
+pub fn is_on(b: u8) -> usize
     ensures { λ r. ⌜ r ≡ byteOf (eqb b 1) ⌝ }
 {
     if b == 1 { 1 } else { 0 }

@@ -34,19 +34,26 @@ impl Cd {
     // A fit needs a determinant above this, and residuals one that is not below.
     pub const LEAST_DETERMINANT: f64 = 1e-30;
 
-    // The CD that six numbers make.
+    // By its numbers. Every CD is made here.
+    pub fn new(cd1_1: f64, cd1_2: f64, xi0: f64, cd2_1: f64, cd2_2: f64, eta0: f64) -> Cd
+        ensures { λ r. ⌜ r ≡ record { cd1_1 = cd1_1; cd1_2 = cd1_2; xi0 = xi0; cd2_1 = cd2_1; cd2_2 = cd2_2; eta0 = eta0 } ⌝ }
+    {
+        Cd {
+            cd1_1,
+            cd1_2,
+            xi0,
+            cd2_1,
+            cd2_2,
+            eta0,
+        }
+    }
+
+    // The CD that six numbers of a list make.
     pub fn of(m: &[f64]) -> Cd
         requires { ⌜ 6 ≤ length (now m) ⌝ }
         ensures { λ r. ⌜ r ≡ cdIn (now (m .entry)) ⌝ }
     {
-        Cd {
-            cd1_1: m[0],
-            cd1_2: m[1],
-            xi0: m[2],
-            cd2_1: m[3],
-            cd2_2: m[4],
-            eta0: m[5],
-        }
+        Cd::new(m[0], m[1], m[2], m[3], m[4], m[5])
     }
 
     // The determinant of its four factors.
@@ -152,7 +159,7 @@ pub fn good_masked(px: &[f64], py: &[f64], xi: &[f64], eta: &[f64], mask: &[u8])
 }
 
 // The error of a row that is on; +0.0 for one that is off.
-fn error_if(on: bool, v: Inverse, row: Row) -> f64
+pub fn error_if(on: bool, v: Inverse, row: Row) -> f64
     ensures { λ r. ⌜ r ≡ cond on (errorOf v row) nothing ⌝ }
 {
     if on { v.error(row) } else { 0.0 }

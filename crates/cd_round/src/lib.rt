@@ -1,4 +1,4 @@
-// The rows of one round of the weighted clip: their squares' sum, and which of them are rejected.
+// A round of the weighted clip at one row: its square in the sum, whether it is rejected, and the byte that is left.
 ghost use mathlib.Core.Path.{_≡_};
 ghost use mathlib.Core.Bool.{cond, _&&_};
 ghost use Prim.Native.Nat.{_≤_};
@@ -6,7 +6,7 @@ ghost use lib.ListN.{length};
 ghost use lib.Ieee.{lt};
 ghost use Rattle.answer.specs.Answers.{written};
 ghost use Rattle.floats.specs.Rounded.{_⊕_, _⊗_};
-ghost use Rattle.cd_round.specs.Round.{rootsOf, squaresTo, clipOf, anyRejected, maskLeft};
+ghost use Rattle.cd_round.specs.Round.{rootsOf, clipOf};
 
 // What a round rejects by: a row's error times the root of its weight may not be above the limit.
 pub struct Clip {
@@ -32,7 +32,7 @@ impl Clip {
     }
 
     // Whether a row is rejected: one that is on, past the limit.
-    fn rejects(self, on: bool, error: f64, root: f64) -> bool
+    pub fn rejects(self, on: bool, error: f64, root: f64) -> bool
         ensures { λ r. ⌜ r ≡ (on && lt (self .limit) (error ⊗ root)) ⌝ }
     {
         on & (error * root > self.limit)
@@ -50,44 +50,15 @@ pub fn put_roots(weights: &[f64], roots: &mut [f64])
 }
 
 // The sum with the weighted square of a row that is on.
-fn with_square_if(sum: f64, on: bool, w: f64, e: f64) -> f64
+pub fn with_square_if(sum: f64, on: bool, w: f64, e: f64) -> f64
     ensures { λ r. ⌜ r ≡ cond on (sum ⊕ w ⊗ e ⊗ e) sum ⌝ }
 {
     if on { sum + w * e * e } else { sum }
 }
 
-// The sum of the weighted squares of the rows that are on.
-pub fn sum_squares(errors: &[f64], weights: &[f64], mask: &[u8]) -> f64
-    requires { ⌜ length (now errors) ≡ length (now mask) ⌝ ∗ ⌜ length (now weights) ≡ length (now mask) ⌝ }
-    ensures { λ r. ⌜ r ≡ squaresTo (now (errors .entry)) (now (weights .entry)) (now (mask .entry)) (length (now (mask .entry))) ⌝ }
-{
-    let mut sum = 0.0;
-    for i in 0..mask.len() {
-        sum = with_square_if(sum, mask[i] == 1, weights[i], errors[i]);
-    }
-    sum
-}
-
 // The byte of a row after the round: off where it is rejected, and else as it was.
-fn byte_left(out: bool, b: u8) -> u8
+pub fn byte_left(out: bool, b: u8) -> u8
     ensures { λ r. ⌜ r ≡ cond out 0 b ⌝ }
 {
     if out { 0 } else { b }
-}
-
-// Turns the rows off that are rejected; whether any is.
-pub fn reject(errors: &[f64], roots: &[f64], mask: &mut [u8], clip: Clip) -> bool
-    requires { ⌜ length (now errors) ≡ length (now mask) ⌝ ∗ ⌜ length (now roots) ≡ length (now mask) ⌝ }
-    ensures any { λ r. ⌜ r ≡ anyRejected (now (errors .entry)) (now (roots .entry)) (now (mask .entry)) clip (length (now (mask .entry))) ⌝ }
-    ensures left { λ r. ⌜ now (mask .exit) ≡ maskLeft (now (errors .entry)) (now (roots .entry)) (now (mask .entry)) clip ⌝ }
-{
-    let n = mask.len();
-    let mut any = false;
-    for i in 0..n {
-        let b = mask[i];
-        let out = clip.rejects(b == 1, errors[i], roots[i]);
-        mask[i] = byte_left(out, b);
-        any = any | out;
-    }
-    any
 }

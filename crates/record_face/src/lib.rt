@@ -15,12 +15,7 @@ fn sip_in(rows_used: usize, sums: &[f64]) -> Sip
     requires { ⌜ 3 ≤ length (now sums) ⌝ }
     ensures { λ r. ⌜ r ≡ sipIn «rows_used» (now (sums .entry)) ⌝ }
 {
-    Sip {
-        rows_used,
-        linear_rms: sums[0],
-        rms: sums[1],
-        wrms: sums[2],
-    }
+    Sip::new(rows_used, sums[0], sums[1], sums[2])
 }
 
 // The record of a solution from the front of the text, and how many bytes it has. The WCS is six numbers, the sums are three.

@@ -6,10 +6,11 @@ use lib.ListN.{length, getD}
 use lib.Ieee.{Float, nan}
 use Rattle.rows.specs.Rows.{Rows, count}
 use Rattle.cd_plate.specs.Filled.{filled}
+use Rattle.cd_plate.proofs.Filling.{filled-at}
 use Rattle.wcs.specs.declared.Wcs.{Wcs}
 use Rattle.elimination_rows.specs.Matrix.{cells}
 use Rattle.sip_terms.specs.Terms.{valueOf}
-use Rattle.sip_terms.proofs.Told.{filled-at, filled-same}
+use Rattle.sip_terms.proofs.Told.{filled-same}
 use Rattle.sip_sums.specs.Field.{offsetAt}
 use Rattle.sip_values.specs.Values.{Powers, valueIn}
 use Rattle.sip_values.proofs.Summing.{value-held}

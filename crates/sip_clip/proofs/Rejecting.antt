@@ -1,7 +1,7 @@
 -- One clip, row by row, and what it leaves where it turns nothing off. Assumes nothing.
 use mathlib.Core.Path.{_≡_, refl, sym}
 use mathlib.Core.Bool.{Bool, true, false, not, _&&_}
-use mathlib.Core.List.{List, [], _∷_}
+use mathlib.Core.List.{List}
 use Prim.Native.Nat.{ℕ, zero, suc, _+_, _≤_, _<_}
 use native.Mathlib.Omega.{arith}
 use lib.Dec.{eqb}
@@ -9,12 +9,13 @@ use lib.ListN.{length}
 use lib.Ieee.{Float, nan}
 use borrow.Author.Tests.{eqb-true, eqb-false}
 use Rattle.rows.specs.Rows.{Rows, count}
-use Rattle.cd_mask.specs.Marks.{byteOf, ones}
+use Rattle.cd_mask.specs.Marks.{byteOf}
 use Rattle.cd_mask.proofs.Marking.{byte-le}
 use Rattle.cd_plate.specs.Masked.{isOn}
 use Rattle.cd_plate.specs.Filled.{filled}
+use Rattle.cd_plate.proofs.Filling.{filled-at}
 use Rattle.wcs.specs.declared.Wcs.{Wcs}
-use Rattle.sip_terms.proofs.Told.{filled-at, filled-same}
+use Rattle.sip_terms.proofs.Told.{filled-same}
 use Rattle.sip_clip.specs.Clip.{errorAt, errorsOf, rootAt, rootsOf, isPast, rejectedTo, byteAt, clipped, clipBy, limitIn, clipOf}
 use Rattle.sip_clip.specs.Steps.{pastIn, rejectedIn, maskIn}
 
@@ -23,12 +24,6 @@ pub rejected-few : (past : ℕ → Bool) (mask : List ℕ) (k : ℕ) → rejecte
 unfolding rejectedTo
 rejected-few past mask zero = omega arith
 rejected-few past mask (suc k) = omega (arith, rejected-few past mask k, byte-le (isOn mask k && past k))
-
--- nor are more on
-pub ones-few : (bs : List ℕ) → ones bs ≤ length bs
-unfolding ones
-ones-few [] = omega arith
-ones-few (b ∷ bs) = omega (arith, ones-few bs, byte-le (eqb b 1))
 
 -- two tests that agree on the rows clip alike
 rejected-same : (p q : ℕ → Bool) (mask : List ℕ) (k : ℕ) → ((i : ℕ) → i < k → p i ≡ q i) → rejectedTo p mask k ≡ rejectedTo q mask k

@@ -118,10 +118,5 @@ pub fn sip_of(linear_rms: f64, snr: &[f64], mask: &[u8], errors: &[f64]) -> Sip
     let t = sum_errors(snr, mask, errors);
     let rms = root_mean(t.squares, n);
     let wrms = root_share(t.weighed, t.weights);
-    Sip {
-        rows_used: n,
-        linear_rms,
-        rms,
-        wrms,
-    }
+    Sip::new(n, linear_rms, rms, wrms)
 }

@@ -14,12 +14,11 @@ use Rattle.floats.specs.Rounded.{_⊗_}
 use Rattle.cd_plate.specs.Plate.{nothing}
 use Rattle.cd_plate.specs.Masked.{isOn}
 use Rattle.cd_plate.specs.Filled.{filled}
-use Rattle.cd_plate.proofs.Filling.{filled-length}
+use Rattle.cd_plate.proofs.Filling.{filled-length, filled-at}
 use Rattle.elimination_rows.specs.Matrix.{Matrix, cells}
 use Rattle.elimination_rows.specs.Holds.{Holds}
 use Rattle.elimination_rows.proofs.Flat.{in-cell, in-row, tail-at}
 use Rattle.elimination_rows.proofs.Turns.{upTo, other-below}
-use Rattle.sip_terms.proofs.Told.{filled-at}
 use Rattle.sip_sums.specs.Field.{weightAt}
 use Rattle.sip_sums.specs.Steps.{More, withLine, withLineIf, sumsIn}
 

@@ -10,10 +10,11 @@ use lib.Ieee.{Float, nan, binary64, mul}
 use borrow.Author.Tests.{eqb-true, eqb-false, leb-true, leb-false}
 use Rattle.floats.specs.Power.{powerOf}
 use Rattle.cd_plate.specs.Filled.{filled}
+use Rattle.cd_plate.proofs.Filling.{filled-at}
 use Rattle.sip_terms.specs.declared.Term.{Term}
 use Rattle.sip_terms.specs.Terms.{nextTerm, termAt, countTo, basisOf}
 use Rattle.sip_terms.specs.Steps.{powersOf, basisIn}
-use Rattle.sip_terms.proofs.Told.{filled-at, filled-same}
+use Rattle.sip_terms.proofs.Told.{filled-same}
 
 count-more : (d : ℕ) → countTo (suc d) ≡ countTo d + (d + 3)
 unfolding countTo

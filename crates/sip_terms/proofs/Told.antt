@@ -1,30 +1,13 @@
 -- Lists that are told number by number. Assumes nothing.
 use mathlib.Core.Path.{_≡_, refl, ap, _∙_}
-use mathlib.Core.Bool.{Bool, true, false}
-use mathlib.Core.List.{List, [], _∷_, _++_}
+use mathlib.Core.List.{List, _∷_, _++_}
 use Prim.Native.Nat.{ℕ, zero, suc, _+_, _≤_, _<_}
 use native.Mathlib.Nat.{add-zero, not-suc-le-zero, le-of-suc-le-suc}
 use native.Mathlib.Omega.{arith}
-use lib.Dec.{ltb}
-use lib.ListN.{length, getD, take, drop, replicate, List·getD-append}
-use lib.Seq.{getD-at, getD-drop, getD-append-add}
-use borrow.Author.Tests.{ltb-true, ltb-false}
+use lib.ListN.{length, getD, take, drop, replicate}
+use lib.Seq.{getD-drop, getD-append-add}
 use Rattle.cd_plate.specs.Filled.{filled}
 use Rattle.cd_plate.proofs.Filling.{filled-length}
-
--- what stands at a place
-pub filled-at : {A : Type 0} (f : ℕ → A) (n i : ℕ) (d : A) → i < n → getD (filled f n) i d ≡ f i
-unfolding filled
-filled-at f zero i d h = absurd (omega arith)
-filled-at {A} f (suc n) i d h = go (ltb i n) refl (λ g. filled-at f n i d g)
-  where
-    go : (b : Bool) → ltb i n ≡ b → (i < n → getD (filled f n) i d ≡ f i) → getD (filled f n ++ (f n ∷ [])) i d ≡ f i
-    go true e r =
-        let g : i < n = ltb-true i n e in
-        List·getD-append (filled f n) (f n ∷ []) d i (rw (filled-length f n) g) ∙ r g
-    go false e r =
-        let g : i ≡ n = omega (arith, ltb-false i n e) in
-        rw g (getD-at (filled f n) (f n) [] d n (filled-length f n))
 
 -- two lists told alike are the same
 pub filled-same : {A : Type 0} (f g : ℕ → A) (n : ℕ) → ((i : ℕ) → i < n → f i ≡ g i) → filled f n ≡ filled g n

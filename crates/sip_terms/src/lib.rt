@@ -27,6 +27,18 @@ impl Sip {
     pub const FACTOR: f64 = 2.5;
     // A coefficient is kept above this.
     pub const LEAST_COEFFICIENT: f64 = 1e-20;
+
+    // By its numbers. What every fit hands back is made here.
+    pub fn new(rows_used: usize, linear_rms: f64, rms: f64, wrms: f64) -> Sip
+        ensures { λ r. ⌜ r ≡ record { «rows_used» = «rows_used»; «linear_rms» = «linear_rms»; rms = rms; wrms = wrms } ⌝ }
+    {
+        Sip {
+            rows_used,
+            linear_rms,
+            rms,
+            wrms,
+        }
+    }
 }
 
 // How many powers of a number there are, from 0 on.

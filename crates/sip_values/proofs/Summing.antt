@@ -11,11 +11,11 @@ use lib.Ieee.{Float, nan}
 use Rattle.floats.specs.Power.{powerOf}
 use Rattle.cd_plate.specs.Plate.{nothing}
 use Rattle.cd_plate.specs.Filled.{filled}
-use Rattle.cd_plate.proofs.Filling.{filled-length}
+use Rattle.cd_plate.proofs.Filling.{filled-length, filled-at}
 use Rattle.elimination_rows.specs.Matrix.{Matrix, cells}
 use Rattle.sip_terms.specs.declared.Term.{Term}
 use Rattle.sip_terms.specs.Terms.{termAt, isKept, valueTo}
-use Rattle.sip_terms.proofs.Told.{filled-at, filled-same}
+use Rattle.sip_terms.proofs.Told.{filled-same}
 use Rattle.sip_terms.proofs.Places.{low-powers}
 use Rattle.sip_values.specs.Values.{productAt, termAdded, valueIn}
 

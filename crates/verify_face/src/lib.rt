@@ -37,14 +37,7 @@ fn affine_in(m: &[f64]) -> Affine
     requires { ⌜ 6 ≤ length (now m) ⌝ }
     ensures { λ r. ⌜ r ≡ affineIn (now (m .entry)) ⌝ }
 {
-    Affine {
-        a11: m[0],
-        a12: m[1],
-        tx: m[2],
-        a21: m[3],
-        a22: m[4],
-        ty: m[5],
-    }
+    Affine::new(m[0], m[1], m[2], m[3], m[4], m[5])
 }
 
 // The affine of the rows at three places.

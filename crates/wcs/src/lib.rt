@@ -35,14 +35,7 @@ impl Wcs {
     pub fn plate(self) -> Cd
         ensures { λ r. ⌜ r ≡ plateOf self ⌝ }
     {
-        Cd {
-            cd1_1: self.cd1_1,
-            cd1_2: self.cd1_2,
-            xi0: 0.0,
-            cd2_1: self.cd2_1,
-            cd2_2: self.cd2_2,
-            eta0: 0.0,
-        }
+        Cd::new(self.cd1_1, self.cd1_2, 0.0, self.cd2_1, self.cd2_2, 0.0)
     }
 
     // Whether the reference pixel is a position, and each factor finite.

@@ -1,7 +1,8 @@
 -- `sip_clip::clip` meets its contract: the calls give what the definition names; the roots that are read are those of the weights. Assumes nothing.
 use Rattle.sip_clip.specs.Clip.{rootAt}
+use Rattle.cd_mask.proofs.Marking.{ones-few}
 use Rattle.cd_plate.proofs.Filling.{filled-length}
-use Rattle.sip_clip.proofs.Rejecting.{clip-done, ones-few}
+use Rattle.sip_clip.proofs.Rejecting.{clip-done}
 use lib.ListN.{length}
 use native.Mathlib.Omega.{arith}
 use mathlib.Core.Path.{_≡_, _∙_}

@@ -1,5 +1,5 @@
 -- `sip_rms::sip_of` meets its contract: the calls give what the definition names. Assumes nothing.
-use Rattle.sip_clip.proofs.Rejecting.{ones-few}
+use Rattle.cd_mask.proofs.Marking.{ones-few}
 use Rattle.sip_rms.specs.Rms.{sipOf}
 use native.Mathlib.Omega.{arith}
 use borrow.Author.Needs.{needs}
@@ -18,11 +18,14 @@ root-mean-requires c κs = rw (c .before .count-on .ensures) (omega (arith, ones
 root-share-requires : tie.Need-root-share-requires
 root-share-requires c κs = search needs
 
+new-requires : tie.Need-new-requires
+new-requires c κs = search needs
+
 returns : tie.Need-returns
 unfolding sipOf
-returns c = rw (c .before .root-mean .ensures, c .root-share .ensures, c .before .before .sum-errors .ensures, c .before .before .before .count-on .ensures)
+returns c = rw (c .new .ensures, c .before .before .root-mean .ensures, c .before .root-share .ensures, c .before .before .before .sum-errors .ensures, c .before .before .before .before .count-on .ensures)
 
 pub sip-of-spec : {M : Type 1} → statement M
 sip-of-spec =
     tie.close
-    (tie.spec count-on-requires sum-errors-requires root-mean-requires root-share-requires returns)
+    (tie.spec count-on-requires sum-errors-requires root-mean-requires root-share-requires new-requires returns)
