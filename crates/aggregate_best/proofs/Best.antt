@@ -19,7 +19,7 @@ choose-most results c r v =
     go (eqb v 0) (ltb (c .votes) v) (eqb (c .votes) v) (ltZ (getD results r (pos 0)) (idOf results c)) (eqb-true v 0) (ltb-true (c .votes) v) (ltb-false (c .votes) v) (eqb-true (c .votes) v)
   where
     go : (z x y l : Bool) → (z ≡ true → v ≡ 0) → (x ≡ true → c .votes < v) → (x ≡ false → v ≤ c .votes) → (y ≡ true → c .votes ≡ v)
-        → (c .votes ≤ cond z c (cond (x || (y && l)) (record { at = r; votes = v }) c) .votes) × (v ≤ cond z c (cond (x || (y && l)) (record { at = r; votes = v }) c) .votes)
+        → (c .votes ≤ cond z c (cond (x || (y && l)) (record { at = record { 0 = r }; votes = v }) c) .votes) × (v ≤ cond z c (cond (x || (y && l)) (record { at = record { 0 = r }; votes = v }) c) .votes)
     go true x y l f g g' h = let e = f refl in (omega arith, omega arith)
     go false true y l f g g' h = let e = g refl in (omega arith, omega arith)
     go false false true true f g g' h = let e = h refl in (omega arith, omega arith)

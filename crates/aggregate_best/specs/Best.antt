@@ -10,7 +10,7 @@ use Rattle.aggregate_best.specs.declared.Choice.{Choice}
 
 -- the catalogue id of a choice
 abbrev pub idOf : List ℤ → Choice → ℤ
-idOf results c = getD results (c .at) (pos 0)
+idOf results c = getD results (c .at .0) (pos 0)
 
 -- whether result r, with v votes, is better than a choice: more votes, or as many and a smaller catalogue id
 unfoldable pub better : List ℤ → Choice → ℕ → ℕ → Bool
@@ -18,9 +18,9 @@ better results c r v = ltb (c .votes) v || (eqb (c .votes) v && ltZ (getD result
 
 -- the choice after result r, with v votes; without votes it is not chosen
 unfoldable pub choose : List ℤ → Choice → ℕ → ℕ → Choice
-choose results c r v = cond (eqb v 0) c (cond (better results c r v) (record { at = r; votes = v }) c)
+choose results c r v = cond (eqb v 0) c (cond (better results c r v) (record { at = record { 0 = r }; votes = v }) c)
 
 -- the best of the first n results, where result r has w r votes
 abbrev pub best : List ℤ → (ℕ → ℕ) → ℕ → Choice
-best results w zero = record { at = 0; votes = 0 }
+best results w zero = record { at = record { 0 = 0 }; votes = 0 }
 best results w (suc r) = choose results (best results w r) r (w r)
