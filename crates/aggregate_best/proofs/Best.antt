@@ -3,7 +3,7 @@ use Prim.Native.Nat.{ℕ, zero, suc, _≤_, _<_}
 use mathlib.Core.Path.{_≡_, refl, sym, subst}
 use mathlib.Core.Bool.{Bool, true, false, cond, not, _&&_, _||_}
 use mathlib.Core.List.{List}
-use mathlib.Core.Logic.{inl, inr}
+use mathlib.Core.Logic.{inl, inr, ⊎-elim}
 use native.Mathlib.Nat.{le-of-lt}
 use native.Mathlib.Omega.{arith}
 use lib.Dec.{T, eqb, ltb, ltb→lt, le→leb}
@@ -14,30 +14,6 @@ use borrow.Author.Tests.{eqb-true, eqb-false, ltb-true, ltb-false}
 use Rattle.aggregate_best.specs.declared.Choice.{Choice}
 use Rattle.aggregate_best.specs.Best.{idOf, better, choose, best, NoBetter}
 
--- a choice never loses votes, and has at least those of the result that was looked at
-choose-most : (results : List ℤ) (c : Choice) (r v : ℕ) → (c .votes ≤ choose results c r v .votes) × (v ≤ choose results c r v .votes)
-unfolding choose better
-choose-most results c r v =
-    go (eqb v 0) (ltb (c .votes) v) (eqb (c .votes) v) (ltZ (getD results r (pos 0)) (idOf results c)) (eqb-true v 0) (ltb-true (c .votes) v) (ltb-false (c .votes) v) (eqb-true (c .votes) v)
-  where
-    go : (z x y l : Bool) → (z ≡ true → v ≡ 0) → (x ≡ true → c .votes < v) → (x ≡ false → v ≤ c .votes) → (y ≡ true → c .votes ≡ v)
-        → (c .votes ≤ cond z c (cond (x || (y && l)) (record { at = record { 0 = r }; votes = v }) c) .votes) × (v ≤ cond z c (cond (x || (y && l)) (record { at = record { 0 = r }; votes = v }) c) .votes)
-    go true x y l f g g' h = let e = f refl in (omega arith, omega arith)
-    go false true y l f g g' h = let e = g refl in (omega arith, omega arith)
-    go false false true true f g g' h = let e = h refl in (omega arith, omega arith)
-    go false false true false f g g' h = let e = g' refl in (omega arith, omega arith)
-    go false false false l f g g' h = let e = g' refl in (omega arith, omega arith)
-
--- no result has more votes than the best
-pub best-most : (results : List ℤ) (w : ℕ → ℕ) (n r : ℕ) → r < n → w r ≤ best results w n .votes
-best-most results w zero r h = absurd (omega arith)
-best-most results w (suc k) r h = go (eqb r k) (eqb-true r k) (eqb-false r k) (choose-most results (best results w k) k (w k)) (best-most results w k r)
-  where
-    go : (t : Bool) → (t ≡ true → r ≡ k) → (t ≡ false → r ≡ k → ⊥) → (best results w k .votes ≤ best results w (suc k) .votes) × (w k ≤ best results w (suc k) .votes)
-        → (r < k → w r ≤ best results w k .votes) → w r ≤ best results w (suc k) .votes
-    go true y n m i = rw (y refl) (m .1)
-    go false y n m i = let e = i (omega (arith, n refl)) in omega (arith, m .0)
-
 -- what is below is at most
 below-le : (a b : ℤ) → a <ℤ b → a ≤ℤ b
 below-le (pos a) (pos b) h = leZ-yes (le→leb a b (le-of-lt (ltb→lt a b (h .lt))))
@@ -45,10 +21,11 @@ below-le (pos a) (negsuc b) h = absurd (h .lt)
 below-le (negsuc a) (pos b) h = leZ-yes tt
 below-le (negsuc a) (negsuc b) h = leZ-yes (le→leb b a (le-of-lt (ltb→lt b a (h .lt))))
 
--- the two ways of a test of ids
+-- an id below another is at most all that the other is at most
 lower : (a b z : ℤ) → ltZ a b ≡ true → b ≤ℤ z → a ≤ℤ z
 lower a b z e h = below-le a z (<ℤ-≤ℤ-trans {a = a} {b = b} {c = z} (ltZ-yes (subst T (sym e) tt)) h)
 
+-- an id that is not below another is at least that one
 at-most : (a b : ℤ) → ltZ a b ≡ false → b ≤ℤ a
 at-most a b e = ltZ-no {a = a} {b = b} (subst (λ (t : Bool). T (not t)) (sym e) tt)
 
@@ -94,6 +71,14 @@ best-least results w (suc k) r h p = go (eqb r k) (eqb-true r k) (eqb-false r k)
         → NoBetter results (best results w (suc k)) (w r) (getD results r (pos 0))
     go true y n i = rw (y refl) (new-no-better results (best results w k) k (w k) (rw (y refl) at p))
     go false y n i = keep-no-better results (best results w k) k (w k) (w r) (getD results r (pos 0)) (i (omega (arith, n refl)) p)
+
+-- no result has more votes than the best
+pub best-most : (results : List ℤ) (w : ℕ → ℕ) (n r : ℕ) → r < n → w r ≤ best results w n .votes
+best-most results w n r h = go (ltb 0 (w r)) (ltb-true 0 (w r)) (ltb-false 0 (w r))
+  where
+    go : (t : Bool) → (t ≡ true → 0 < w r) → (t ≡ false → w r ≤ 0) → w r ≤ best results w n .votes
+    go true y z = ⊎-elim (λ l. omega arith) (λ e. omega (arith, e .0)) (best-least results w n r h (y refl))
+    go false y z = let e = z refl in omega arith
 
 -- a best that has votes is one of the results, with its own votes
 pub best-one : (results : List ℤ) (w : ℕ → ℕ) (n : ℕ) → 0 < best results w n .votes → (best results w n .at .0 < n) × (w (best results w n .at .0) ≡ best results w n .votes)
