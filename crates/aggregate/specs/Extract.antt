@@ -135,11 +135,11 @@ pairYs g = map (λ d. getD (g .ys) d nan) (found g)
 
 -- their right ascensions
 abbrev pub pairRas : Given → List Float
-pairRas g = map (λ d. getD (g .ras) (choiceIn g d .at) nan) (found g)
+pairRas g = map (λ d. getD (g .ras) (choiceIn g d .at .0) nan) (found g)
 
 -- their declinations
 abbrev pub pairDecs : Given → List Float
-pairDecs g = map (λ d. getD (g .decs) (choiceIn g d .at) nan) (found g)
+pairDecs g = map (λ d. getD (g .decs) (choiceIn g d .at .0) nan) (found g)
 
 -- their votes
 abbrev pub pairVotes : Given → List ℕ

@@ -41,7 +41,7 @@ p12-matches = refl
 abbrev repeated : Ids
 repeated = ids (0 ∷ 1 ∷ []) results12 (pos 7 ∷ pos 9 ∷ pos 7 ∷ [])
 
-last-chosen : chosenBy repeated (votesOf matches12) 0 ≡ record { at = 2; votes = 3 }
+last-chosen : chosenBy repeated (votesOf matches12) 0 ≡ record { at = record { 0 = 2 }; votes = 3 }
 unfolding votesAt votesOf isFor counts better choose
 last-chosen = refl
 
@@ -50,11 +50,11 @@ unfolding pairsOf votesAt votesOf isFor counts better choose claim paired
 repeated-pairs = refl
 
 -- of two detections with as many votes for one id the smaller id has it, and the other is not given its second choice
-claimed-once : pairsTo results12 (λ d. record { at = 0; votes = 2 }) 2 2 ≡ 0 ∷ []
+claimed-once : pairsTo results12 (λ d. record { at = record { 0 = 0 }; votes = 2 }) 2 2 ≡ 0 ∷ []
 unfolding claim paired
 claimed-once = refl
 
 -- votes fall, and among equals the detections rise
-in-order : pairsTo (pos 3 ∷ pos 4 ∷ pos 5 ∷ []) (λ d. record { at = d; votes = cond (eqb d 1) 9 2 }) 3 3 ≡ 1 ∷ 0 ∷ 2 ∷ []
+in-order : pairsTo (pos 3 ∷ pos 4 ∷ pos 5 ∷ []) (λ d. record { at = record { 0 = d }; votes = cond (eqb d 1) 9 2 }) 3 3 ≡ 1 ∷ 0 ∷ 2 ∷ []
 unfolding claim paired
 in-order = refl

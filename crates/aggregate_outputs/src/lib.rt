@@ -1,71 +1,69 @@
 // The six outputs of the pairs, written from the front of lent lists.
 use aggregate_choice::Picked;
+use aggregate_votes::DetectionId;
+use aggregate_votes::ResultPlace;
 ghost use mathlib.Core.Path.{_≡_};
 ghost use Prim.Native.Nat.{_≤_};
 ghost use lib.Ieee.{nan};
 ghost use lib.ListN.{length, getD};
 ghost use Rattle.aggregate_outputs.specs.Gather.{gathered};
 
-// The number at i, and NaN past the end.
-fn coord(xs: &[f64], i: usize) -> f64
-    ensures { λ r. ⌜ r ≡ getD (now (xs .entry)) i nan ⌝ }
+// A value of a detection, and NaN past the end.
+fn value_of(xs: &[f64], d: DetectionId) -> f64
+    ensures { λ v. ⌜ v ≡ getD (now (xs .entry)) (d .0) nan ⌝ }
 {
+    let i = d.0 as usize;
     if i < xs.len() { xs[i] } else { 0.0 / 0.0 }
 }
 
-// The place at i, and 0 past the end.
-fn index_at(xs: &[usize], i: usize) -> usize
-    ensures { λ r. ⌜ r ≡ getD (now (xs .entry)) i 0 ⌝ }
+// A coordinate of a result, and NaN past the end.
+fn coord(xs: &[f64], r: ResultPlace) -> f64
+    ensures { λ v. ⌜ v ≡ getD (now (xs .entry)) (r .0) nan ⌝ }
 {
-    if i < xs.len() { xs[i] } else { 0 }
-}
-
-// The count at i, and 0 past the end.
-fn count_at(xs: &[u32], i: usize) -> u32
-    ensures { λ r. ⌜ r ≡ getD (now (xs .entry)) i 0 ⌝ }
-{
-    if i < xs.len() { xs[i] } else { 0 }
+    let i = r.0;
+    if i < xs.len() { xs[i] } else { 0.0 / 0.0 }
 }
 
 // The values of the first n listed detections, to the front of a lent list.
-fn put_values(out: &mut [f64], src: &[f64], order: &[usize], n: usize)
+fn put_values(out: &mut [f64], src: &[f64], order: &[u32], n: usize)
     requires { ⌜ n ≤ length (now order) ⌝ ∗ ⌜ n ≤ length (now out) ⌝ }
     ensures { λ _. ⌜ now (out .exit) ≡ gathered (λ d. getD (now (src .entry)) d nan) (now (order .entry)) n (now (out .entry)) ⌝ }
 {
     let mut p = 0usize;
     while p < n {
-        out[p] = coord(src, order[p]);
+        out[p] = value_of(src, aggregate_choice::detection_in(order, p));
         p += 1;
     }
 }
 
 // The positions of their choices: `at` has the result of each detection.
-fn put_positions(out: &mut [f64], src: &[f64], at: &[usize], order: &[usize], n: usize)
+fn put_positions(out: &mut [f64], src: &[f64], at: &[usize], order: &[u32], n: usize)
     requires { ⌜ n ≤ length (now order) ⌝ ∗ ⌜ n ≤ length (now out) ⌝ }
     ensures { λ _. ⌜ now (out .exit) ≡ gathered (λ d. getD (now (src .entry)) (getD (now (at .entry)) d 0) nan) (now (order .entry)) n (now (out .entry)) ⌝ }
 {
     let mut p = 0usize;
     while p < n {
-        out[p] = coord(src, index_at(at, order[p]));
+        let d = aggregate_choice::detection_in(order, p);
+        out[p] = coord(src, aggregate_best::choice_of(at, d));
         p += 1;
     }
 }
 
 // Their votes.
-fn put_votes(out: &mut [u32], src: &[u32], order: &[usize], n: usize)
+fn put_votes(out: &mut [u32], src: &[u32], order: &[u32], n: usize)
     requires { ⌜ n ≤ length (now order) ⌝ ∗ ⌜ n ≤ length (now out) ⌝ }
     ensures { λ _. ⌜ now (out .exit) ≡ gathered (λ d. getD (now (src .entry)) d 0) (now (order .entry)) n (now (out .entry)) ⌝ }
 {
     let mut p = 0usize;
     while p < n {
-        out[p] = count_at(src, order[p]);
+        out[p] = aggregate_best::votes_of(src, aggregate_choice::detection_in(order, p));
         p += 1;
     }
 }
 
 // Writes the six outputs of the first n listed detections, from lists.
 fn write_lists(
-    order: &[usize],
+    order: &[u32],
     at: &[usize],
     counts: &[u32],
     n: usize,

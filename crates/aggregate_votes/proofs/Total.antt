@@ -82,7 +82,8 @@ module _ (i : Ids) where
       go true false w true to from y n = no (from (y refl) .0)
       go true false w false to from y n = refl
 
-  has-position : (v : Vote) → counts i v ≡ true → 0 < positionOf i (catalogueOf i v)
+  -- a vote that counts names an id that has a position
+  pub has-position : (v : Vote) → counts i v ≡ true → 0 < positionOf i (catalogueOf i v)
   unfolding counts
   has-position v = go (ltb (v .image) (length (i .images))) (ltb (v .catalogue) (length (i .catalogue))) (ltb 0 (positionOf i (catalogueOf i v))) (ltb-true 0 (positionOf i (catalogueOf i v)))
     where

@@ -17,11 +17,23 @@ pub struct CataloguePlace(pub u8);
 // The id of a detection: its place in the list of detections.
 pub struct DetectionId(pub u32);
 
-// The id at a place, and 0 past the end, so that no caller has to carry a bound.
-fn id_at(ids: &[i64], i: usize) -> i64
-    ensures { λ r. ⌜ r ≡ getD (now (ids .entry)) i (pos 0) ⌝ }
+// A place in the list of results.
+pub struct ResultPlace(pub usize);
+
+// The id of a result, and 0 past the end, so that no caller has to carry a bound.
+fn result_id(results: &[i64], r: ResultPlace) -> i64
+    ensures { λ c. ⌜ c ≡ getD (now (results .entry)) (r .0) (pos 0) ⌝ }
 {
-    if i < ids.len() { ids[i] } else { 0 }
+    let i = r.0;
+    if i < results.len() { results[i] } else { 0 }
+}
+
+// The id of a catalogue star, and 0 past the end.
+fn catalogue_id(catalogue: &[i64], b: CataloguePlace) -> i64
+    ensures { λ c. ⌜ c ≡ getD (now (catalogue .entry)) (b .0) (pos 0) ⌝ }
+{
+    let i = b.0 as usize;
+    if i < catalogue.len() { catalogue[i] } else { 0 }
 }
 
 // Whether two catalogue ids are the same.
@@ -31,18 +43,25 @@ fn same_id(a: i64, b: i64) -> bool
     if a == b { true } else { false }
 }
 
-// Whether the id at i is below the id at j; ids have a sign.
-pub fn less_at(ids: &[i64], i: usize, j: usize) -> bool
-    ensures { λ r. ⌜ r ≡ ltZ (getD (now (ids .entry)) i (pos 0)) (getD (now (ids .entry)) j (pos 0)) ⌝ }
+// Whether the id of result i is below the id of result j; ids have a sign.
+pub fn less_at(results: &[i64], i: ResultPlace, j: ResultPlace) -> bool
+    ensures { λ r. ⌜ r ≡ ltZ (getD (now (results .entry)) (i .0) (pos 0)) (getD (now (results .entry)) (j .0) (pos 0)) ⌝ }
 {
-    id_at(ids, i) < id_at(ids, j)
+    result_id(results, i) < result_id(results, j)
 }
 
-// Whether id i of the one list is id j of the other.
-pub fn same_at(ids: &[i64], i: usize, others: &[i64], j: usize) -> bool
-    ensures { λ r. ⌜ r ≡ sameId (getD (now (ids .entry)) i (pos 0)) (getD (now (others .entry)) j (pos 0)) ⌝ }
+// Whether results i and j have the same id.
+pub fn same_at(results: &[i64], i: ResultPlace, j: ResultPlace) -> bool
+    ensures { λ r. ⌜ r ≡ sameId (getD (now (results .entry)) (i .0) (pos 0)) (getD (now (results .entry)) (j .0) (pos 0)) ⌝ }
 {
-    same_id(id_at(ids, i), id_at(others, j))
+    same_id(result_id(results, i), result_id(results, j))
+}
+
+// Whether a result and a catalogue star have the same id.
+fn same_star(results: &[i64], r: ResultPlace, catalogue: &[i64], b: CataloguePlace) -> bool
+    ensures { λ s. ⌜ s ≡ sameId (getD (now (results .entry)) (r .0) (pos 0)) (getD (now (catalogue .entry)) (b .0) (pos 0)) ⌝ }
+{
+    same_id(result_id(results, r), catalogue_id(catalogue, b))
 }
 
 // The later place, where its id is the one that is looked for.
@@ -52,14 +71,18 @@ fn newer(hit: bool, k: usize, old: usize) -> usize
     if hit { k } else { old }
 }
 
-// The last result with id j of the catalogue, counted from 1; 0 where there is none.
-fn last_of(results: &[i64], catalogue: &[i64], j: usize) -> usize
-    ensures { λ r. ⌜ r ≡ lastOf (now (results .entry)) (getD (now (catalogue .entry)) j (pos 0)) (length (now (results .entry))) ⌝ }
+// The last result with the id of a catalogue star, counted from 1; 0 where there is none.
+fn last_of(results: &[i64], catalogue: &[i64], b: CataloguePlace) -> usize
+    ensures { λ r. ⌜ r ≡ lastOf (now (results .entry)) (getD (now (catalogue .entry)) (b .0) (pos 0)) (length (now (results .entry))) ⌝ }
 {
     let mut found = 0usize;
     let mut k = 0usize;
     while k < results.len() {
-        found = newer(same_at(results, k, catalogue, j), k + 1, found);
+        found = newer(
+            same_star(results, ResultPlace(k), catalogue, b),
+            k + 1,
+            found,
+        );
         k += 1;
     }
     found
@@ -73,7 +96,7 @@ fn columns(results: &[i64], catalogue: &[i64]) -> [usize; 256]
     let mut cols = [0usize; 256];
     let mut j = 0usize;
     while j < catalogue.len() {
-        cols[j] = last_of(results, catalogue, j);
+        cols[j] = last_of(results, catalogue, CataloguePlace(j as u8));
         j += 1;
     }
     cols

@@ -80,9 +80,9 @@ returns-3 c =
         (
           wrote (λ d. getD (now (a .ys)) d nan) (λ d. getD (now (a .ys)) d nan) (p .result .order) (found g) (p .result .n) (length (now (a .xs))) (now (a .py)) _ l n b (λ d h. refl) (w .ensures .1 .0),
           (
-            wrote (λ d. getD (now (a .ras)) (choiceIn g d .at) nan) (λ d. getD (now (a .ras)) (getD (p .result .at) d 0) nan) (p .result .order) (found g) (p .result .n) (length (now (a .xs))) (now (a .ra)) _ l n b (λ d h. ap (λ (x : Choice). getD (now (a .ras)) (x .at) nan) (same d h)) (w .ensures .1 .1 .0),
+            wrote (λ d. getD (now (a .ras)) (choiceIn g d .at .0) nan) (λ d. getD (now (a .ras)) (getD (p .result .at) d 0) nan) (p .result .order) (found g) (p .result .n) (length (now (a .xs))) (now (a .ra)) _ l n b (λ d h. ap (λ (x : Choice). getD (now (a .ras)) (x .at .0) nan) (same d h)) (w .ensures .1 .1 .0),
             (
-              wrote (λ d. getD (now (a .decs)) (choiceIn g d .at) nan) (λ d. getD (now (a .decs)) (getD (p .result .at) d 0) nan) (p .result .order) (found g) (p .result .n) (length (now (a .xs))) (now (a .dec)) _ l n b (λ d h. ap (λ (x : Choice). getD (now (a .decs)) (x .at) nan) (same d h)) (w .ensures .1 .1 .1 .0),
+              wrote (λ d. getD (now (a .decs)) (choiceIn g d .at .0) nan) (λ d. getD (now (a .decs)) (getD (p .result .at) d 0) nan) (p .result .order) (found g) (p .result .n) (length (now (a .xs))) (now (a .dec)) _ l n b (λ d h. ap (λ (x : Choice). getD (now (a .decs)) (x .at .0) nan) (same d h)) (w .ensures .1 .1 .1 .0),
               (
                 wrote (λ d. choiceIn g d .votes) (λ d. getD (p .result .votes) d 0) (p .result .order) (found g) (p .result .n) (length (now (a .xs))) (now (a .votes)) _ l n b (λ d h. ap (λ (x : Choice). x .votes) (same d h)) (w .ensures .1 .1 .1 .1 .0),
                 wrote (λ d. getD (now (a .snrs)) d nan) (λ d. getD (now (a .snrs)) d nan) (p .result .order) (found g) (p .result .n) (length (now (a .xs))) (now (a .snr)) _ l n b (λ d h. refl) (w .ensures .1 .1 .1 .1 .1),

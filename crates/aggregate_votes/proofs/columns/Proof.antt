@@ -24,6 +24,9 @@ abbrev μ-loop : tie.MeasureT-loop
 loop-holds : tie.Need-loop-holds Inv-loop μ-loop
 loop-holds c = (omega arith, search needs, λ k. rw (le-ltb k 0 (omega arith)) (zeros-at 256 k))
 
+cast-t7 : tie.Need-cast-t7 Inv-loop μ-loop
+cast-t7 c = search needs
+
 last-of-requires : tie.Need-last-of-requires Inv-loop μ-loop
 last-of-requires c κs = search needs
 
@@ -56,6 +59,7 @@ columns-spec =
     Inv-loop
     μ-loop
     loop-holds
+    cast-t7
     last-of-requires
     mul-cols
     array-write-cols

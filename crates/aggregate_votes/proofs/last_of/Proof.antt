@@ -12,16 +12,16 @@ use Rattle.aggregate_votes.proofs.last_of.Statement.{statement}
 use Rattle.aggregate_votes.proofs.last_of.Tie as tie
 
 abbrev Inv-loop : tie.InvT-loop
-Inv-loop results catalogue j found₀ k₀ found k = (k ≤ length results) × (found ≡ lastOf results (getD catalogue j (pos 0)) k)
+Inv-loop results catalogue b found₀ k₀ found k = (k ≤ length results) × (found ≡ lastOf results (getD catalogue (b .0) (pos 0)) k)
 
 abbrev μ-loop : tie.MeasureT-loop
-μ-loop results catalogue j found₀ k₀ found k = length results - k
+μ-loop results catalogue b found₀ k₀ found k = length results - k
 
 loop-holds : tie.Need-loop-holds Inv-loop μ-loop
 loop-holds c = search needs
 
-same-at-requires : tie.Need-same-at-requires Inv-loop μ-loop
-same-at-requires c κs = search needs
+same-star-requires : tie.Need-same-star-requires Inv-loop μ-loop
+same-star-requires c κs = search needs
 
 add-newer : tie.Need-add-newer Inv-loop μ-loop
 add-newer c = search needs
@@ -36,7 +36,7 @@ loop-less : tie.Need-loop-less Inv-loop μ-loop
 loop-less c = search needs
 
 loop-again : tie.Need-loop-again Inv-loop μ-loop
-loop-again c = (omega arith, rw (add-one) (rw (c .before .same-at .ensures, c .before .before .before .loop .inv .1, add-one) at (c .newer .ensures)))
+loop-again c = (omega arith, rw (add-one) (rw (c .before .same-star .ensures, c .before .before .before .loop .inv .1, add-one) at (c .newer .ensures)))
 
 returns : tie.Need-returns Inv-loop μ-loop
 returns c = let e : c .before .loop .k ≡ length (now (c .before .before .args .results)) = omega arith in rw (← e) (c .before .loop .inv .1)
@@ -48,7 +48,7 @@ last-of-spec =
     Inv-loop
     μ-loop
     loop-holds
-    same-at-requires
+    same-star-requires
     add-newer
     newer-requires
     add-k
