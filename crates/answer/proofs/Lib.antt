@@ -1,2 +1,4 @@
 pub mod Passed
 pub mod Lent
+pub mod Numbers
+pub mod Determined

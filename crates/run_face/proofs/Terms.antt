@@ -1,12 +1,11 @@
 -- What is demanded of the CD run, carried into the terms of C. Assumes nothing.
-use mathlib.Core.Path.{_≡_, refl, sym, ap, _∙_}
+use mathlib.Core.Path.{_≡_, sym, ap, _∙_}
 use mathlib.Core.List.{List}
 use Prim.Native.Nat.{ℕ}
 use native.Mathlib.Omega.{arith}
 use lib.Ieee.{Float}
-use Rattle.answer.specs.declared.Refusal.{Refusal}
 use Rattle.answer.specs.declared.Refusal.the-variants as refusal
-use Rattle.answer.specs.Answers.{numberOf}
+use Rattle.answer.proofs.Numbers.{not-done, nine-is}
 use Rattle.rows.specs.Rows.{Rows, count}
 use Rattle.cd_pool.specs.Pool.{poolOf}
 use Rattle.cd_run.specs.declared.CdRun.{CdRun}
@@ -15,32 +14,6 @@ use Rattle.cd_run.specs.Run.{runAnswer, runNumber}
 use Rattle.cd_run.specs.Demand.{FittedBest, AllOn, NoneHasThree, StillFitted}
 use Rattle.run_face.specs.Face.{testedAfter, onAfter}
 use Rattle.run_face.specs.Demand.{Demanded}
-
--- a refusal is not done
-not-done : (why : Refusal) → numberOf why ≡ 0 → ⊥
-not-done refusal.Count e = omega arith
-not-done refusal.Lengths e = omega arith
-not-done refusal.Value e = omega arith
-not-done refusal.Place e = omega arith
-not-done refusal.Order e = omega arith
-not-done refusal.Rows e = omega arith
-not-done refusal.Room e = omega arith
-not-done refusal.Degenerate e = omega arith
-not-done refusal.Few e = omega arith
-not-done refusal.Form e = omega arith
-
--- number 9 is that of one refusal
-nine-is : (why : Refusal) → numberOf why ≡ 9 → why ≡ refusal.Few
-nine-is refusal.Count e = absurd (omega arith)
-nine-is refusal.Lengths e = absurd (omega arith)
-nine-is refusal.Value e = absurd (omega arith)
-nine-is refusal.Place e = absurd (omega arith)
-nine-is refusal.Order e = absurd (omega arith)
-nine-is refusal.Rows e = absurd (omega arith)
-nine-is refusal.Room e = absurd (omega arith)
-nine-is refusal.Degenerate e = absurd (omega arith)
-nine-is refusal.Few e = refl
-nine-is refusal.Form e = absurd (omega arith)
 
 -- what a run keeps by its answer v, it keeps by its number and what it writes, once it is known which answer w that is
 module _ (r : Rows) (votes : List ℕ) (limit : Float) (trials places : ℕ) (v : CdRun) (mask : List ℕ)

@@ -1,7 +1,7 @@
 -- `verify_face::verify_pairs` meets its contract: the inner call decides, and the score is handed out where it is done. Assumes nothing.
 use mathlib.Core.Path.{refl, sym, _∙_}
 use borrow.Author.Needs.{needs}
-use Rattle.verify_face.proofs.Numbers.{not-done}
+use Rattle.answer.proofs.Numbers.{not-done}
 use Rattle.verify_face.proofs.verify_pairs.Statement.{statement}
 use Rattle.verify_face.proofs.verify_pairs.Tie as tie
 
