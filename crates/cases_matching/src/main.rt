@@ -43,10 +43,10 @@ fn lend_find_matches(
 }
 
 fn find_matches(s: &[u8], at: usize) {
-    let mut places = [0u8; 128];
-    let mut hashes = [0.0; 128];
-    let mut catalogue = [0u8; 128];
-    let mut others = [0.0; 128];
+    let mut places = [0u8; 1024];
+    let mut hashes = [0.0; 1024];
+    let mut catalogue = [0u8; 1024];
+    let mut others = [0.0; 1024];
     let a = cases::bytes_at(s, at, &mut places);
     let b = cases::floats_at(s, cases::field(s, at, 1), &mut hashes);
     let c = cases::bytes_at(s, cases::field(s, at, 2), &mut catalogue);
@@ -344,7 +344,7 @@ fn answer_all(s: &[u8]) {
 }
 
 fn main() {
-    let mut cases = [0u8; 524288];
+    let mut cases = [0u8; 1048576];
     let n = io::read_full(STDIN_FILENO, &mut cases);
     answer_all(&cases[..n]);
 }

@@ -497,6 +497,8 @@ const SOLVE_NORMAL_EQUATIONS: Call = Call {
             let (a, b) = random_system(&mut random, n);
             cases.push(system_case(&a, &b, n as u32, n));
         }
+        // a zero below zero on the right, whose sign goes through the elimination
+        cases.push(system_case(&[1.0, 0.0, 1.0, 1.0], &[-0.0; 2], 2, 2));
         cases
     },
     random: |random| {

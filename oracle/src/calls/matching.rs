@@ -49,13 +49,26 @@ const FIND_MATCHES: Call = Call {
                 cases.extend(rooms.map(|room| matches_case(&image, &catalogue, room)));
             }
         }
-        let three = QuadLists::of(&[[0.5, -0.5, 0.5, 0.5]; 3]);
+        let hash = [0.5, -0.5, 0.5, 0.5];
+        let three = QuadLists::of(&[hash; 3]);
         cases.push(matches_case(&three, &QuadLists::of(&[]), 5));
         cases.push(matches_case(&QuadLists::of(&[]), &three, 5));
         for other in three.uneven() {
             cases.push(matches_case(&three, &other, 72));
             cases.push(matches_case(&other, &three, 72));
         }
+        // near quads with many key numbers, and such as stand in three of the search's blocks of 64
+        let near = QuadLists::of(&steps_from(hash));
+        cases.push(matches_case(&QuadLists::of(&[hash]), &near, 8 * steps_from(hash).len()));
+        let far = |i: usize| if i % 9 == 0 { hash } else { hash.map(|x| x + 1.0) };
+        let long = QuadLists::of(&(0..150).map(far).collect::<Vec<_>>());
+        cases.push(matches_case(&QuadLists::of(&[hash, hash]), &long, 8 * 2 * 17));
+        // half a quad more, in both lists
+        let mut half = QuadLists::of(&[hash]);
+        half.places.extend([1, 2]);
+        half.hashes.extend([0.5, 0.5]);
+        cases.push(matches_case(&half, &QuadLists::of(&[hash]), 100));
+        cases.push(matches_case(&QuadLists::of(&[hash]), &half, 100));
         cases
     },
     random: |random| {

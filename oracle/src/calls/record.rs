@@ -73,6 +73,10 @@ const WRITE_RECORD: Call = Call {
             cases.push(Given { sums: vec![x, -x, x], ..Given::settled() }.case(MOST));
             cases.push(Given { b: vec![x; 3], ..Given::settled() }.case(MOST));
         }
+        // one digit of the rows, two and three
+        for rows in [0, 9, 10, 99, 100] {
+            cases.extend(Given { rows, ..Given::settled() }.around());
+        }
         // each refusal, one in the company of the next
         for rows in [0, 9, 10, 99, 100, 101, 4_294_967_295] {
             cases.push(Given { rows, ..Given::settled() }.case(MOST));

@@ -306,6 +306,7 @@ const SIGMA_CLIP: Call = Call {
             cases.push(clip_case(&rows, &[1; 3], &cd, &[1.0; 3]));
             cases.push(clip_case(&rows, &[1; 2], &cd, &[1.0; 3]));
             cases.push(clip_case(&rows, &[1; 101], &cd, &[1.0; 3]));
+            cases.push(clip_case(&rows, &[1; 3], &cd, &[1.0; 101]));
         }
         for place in 0..6 {
             let mut cd = UNIT;
