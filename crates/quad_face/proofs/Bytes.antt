@@ -36,7 +36,7 @@ start-back n old h l = rw (le-ltb 100 n h, le-ltb (length old) 5 l) (go (ltb n 4
     go false = refl
 
 -- a step keeps n, and where none is left the state
-Leads : State → Step → Type 0
+abbrev pub Leads : State → Step → Type 0
 Leads s (step.Given x t) = t .n ≡ s .n
 Leads s (step.Ended t) = t ≡ s
 Leads s (step.Refused why) = Unit {0}
@@ -55,8 +55,8 @@ after-n n s = go (ltb (s .d + 1) n) (ltb (s .c + 2) n) (ltb (s .b + 3) n) (ltb (
     go false false false true = refl
     go false false false false = refl
 
-leads : (s : State) → Leads s (stepOf s)
-unfolding stepOf Leads
+pub leads : (s : State) → Leads s (stepOf s)
+unfolding stepOf
 leads s = go (ltb 100 (s .n)) (s .done) (isRising (s .n) (s .set)) (afterOf (s .n) (s .set)) (after-n (s .n) (s .set))
   where
     go : (p q r : Bool) (t : State) → t .n ≡ s .n → Leads s (cond p (step.Refused refusal.Count) (cond q (step.Ended s) (cond r (step.Given (s .set) t) (step.Refused refusal.Place))))
@@ -66,7 +66,6 @@ leads s = go (ltb 100 (s .n)) (s .done) (isRising (s .n) (s .set)) (afterOf (s .
     go false false false t e = tt
 
 step-back : (n : ℕ) (bytes : List ℕ) (t : Step) → Leads (stateIn n bytes) t → stateIn n (written (stepBytes t) bytes) ≡ leftBy (stateIn n bytes) t
-unfolding Leads
 step-back n bytes (step.Given x t) h = rw (← h) (state-back t (drop 5 bytes))
 step-back n bytes (step.Ended t) h = sym h
 step-back n bytes (step.Refused why) h = refl
