@@ -41,6 +41,7 @@ Leads s (step.Given x t) = t .n ≡ s .n
 Leads s (step.Ended t) = t ≡ s
 Leads s (step.Refused why) = Unit {0}
 
+-- the state after a set has the same n
 after-n : (n : ℕ) (s : Set) → afterOf n s .n ≡ n
 unfolding afterOf
 after-n n s = go (ltb (s .d + 1) n) (ltb (s .c + 2) n) (ltb (s .b + 3) n) (ltb (s .a + 4) n)
@@ -55,6 +56,7 @@ after-n n s = go (ltb (s .d + 1) n) (ltb (s .c + 2) n) (ltb (s .b + 3) n) (ltb (
     go false false false true = refl
     go false false false false = refl
 
+-- each step does so
 pub leads : (s : State) → Leads s (stepOf s)
 unfolding stepOf
 leads s = go (ltb 100 (s .n)) (s .done) (isRising (s .n) (s .set)) (afterOf (s .n) (s .set)) (after-n (s .n) (s .set))
@@ -65,6 +67,7 @@ leads s = go (ltb 100 (s .n)) (s .done) (isRising (s .n) (s .set)) (afterOf (s .
     go false false true t e = e
     go false false false t e = tt
 
+-- the bytes that a step writes hold the state that it leaves
 step-back : (n : ℕ) (bytes : List ℕ) (t : Step) → Leads (stateIn n bytes) t → stateIn n (written (stepBytes t) bytes) ≡ leftBy (stateIn n bytes) t
 step-back n bytes (step.Given x t) h = rw (← h) (state-back t (drop 5 bytes))
 step-back n bytes (step.Ended t) h = sym h

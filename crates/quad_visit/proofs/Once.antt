@@ -24,6 +24,7 @@ pub or-right : (a b : Bool) → b ≡ true → (a || b) ≡ true
 or-right true b e = refl
 or-right false b e = e
 
+-- in one of two lists, one after the other
 pub memb-app : (s : ℕ) (a b : List ℕ) → memb s (a ++ b) ≡ (memb s a || memb s b)
 memb-app s [] b = refl
 memb-app s (x ∷ a) b = rw (memb-app s a b) (sym (or-assoc (eqb x s) (memb s a) (memb s b)))
