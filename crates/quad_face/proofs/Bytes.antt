@@ -36,11 +36,12 @@ start-back n old h l = rw (le-ltb 100 n h, le-ltb (length old) 5 l) (go (ltb n 4
     go false = refl
 
 -- a step keeps n, and where none is left the state
-Leads : State → Step → Type 0
+abbrev pub Leads : State → Step → Type 0
 Leads s (step.Given x t) = t .n ≡ s .n
 Leads s (step.Ended t) = t ≡ s
 Leads s (step.Refused why) = Unit {0}
 
+-- the state after a set has the same n
 after-n : (n : ℕ) (s : Set) → afterOf n s .n ≡ n
 unfolding afterOf
 after-n n s = go (ltb (s .d + 1) n) (ltb (s .c + 2) n) (ltb (s .b + 3) n) (ltb (s .a + 4) n)
@@ -55,8 +56,9 @@ after-n n s = go (ltb (s .d + 1) n) (ltb (s .c + 2) n) (ltb (s .b + 3) n) (ltb (
     go false false false true = refl
     go false false false false = refl
 
-leads : (s : State) → Leads s (stepOf s)
-unfolding stepOf Leads
+-- each step does so
+pub leads : (s : State) → Leads s (stepOf s)
+unfolding stepOf
 leads s = go (ltb 100 (s .n)) (s .done) (isRising (s .n) (s .set)) (afterOf (s .n) (s .set)) (after-n (s .n) (s .set))
   where
     go : (p q r : Bool) (t : State) → t .n ≡ s .n → Leads s (cond p (step.Refused refusal.Count) (cond q (step.Ended s) (cond r (step.Given (s .set) t) (step.Refused refusal.Place))))
@@ -65,8 +67,8 @@ leads s = go (ltb 100 (s .n)) (s .done) (isRising (s .n) (s .set)) (afterOf (s .
     go false false true t e = e
     go false false false t e = tt
 
+-- the bytes that a step writes hold the state that it leaves
 step-back : (n : ℕ) (bytes : List ℕ) (t : Step) → Leads (stateIn n bytes) t → stateIn n (written (stepBytes t) bytes) ≡ leftBy (stateIn n bytes) t
-unfolding Leads
 step-back n bytes (step.Given x t) h = rw (← h) (state-back t (drop 5 bytes))
 step-back n bytes (step.Ended t) h = sym h
 step-back n bytes (step.Refused why) h = refl

@@ -1,2 +1,3 @@
 pub mod Face
+pub mod Calls
 pub mod Examples

@@ -23,11 +23,13 @@ Known nan = ⊥
 Known (inf t) = Unit {0}
 Known (fin t m e) = Unit {0}
 
+-- what has a sign is no NaN
 known : (s : Bool) (x : Float) → Has s x → Known x
 known s nan h = h
 known s (inf t) h = tt
 known s (fin t m e) h = tt
 
+-- and without a minus sign it is from zero on
 from-zero : (x : Float) → Has false x → FromZero x
 from-zero nan h = h
 from-zero (inf t) h = h

@@ -18,11 +18,11 @@ pub rest : (l : List ℕ) (n i : ℕ) → i < n → n ≤ length l → drop i (t
 rest l n i h g =
     let s : i < length (take n l) = rw length-take (omega arith) in rw (drop-cons (take n l) i 0 s, getD-take n l i 0 h, add-one)
 
-or-assoc : (a b c : Bool) → ((a || b) || c) ≡ (a || (b || c))
+pub or-assoc : (a b c : Bool) → ((a || b) || c) ≡ (a || (b || c))
 or-assoc true b c = refl
 or-assoc false b c = refl
 
-or-false : (a : Bool) → (a || false) ≡ a
+pub or-false : (a : Bool) → (a || false) ≡ a
 or-false true = refl
 or-false false = refl
 

@@ -10,12 +10,9 @@ use lib.ListN.{length, length-append}
 use Rattle.order.proofs.InTurn.{Each, InTurn, Apart, each-map, each-both, each-append, turn-last}
 use Rattle.quad_visit.specs.Visit.{memb, addNew, addAll}
 use Rattle.quad_visit.specs.Visits.{firstVisits}
+use Rattle.quad_visit.proofs.Laws.{or-assoc, or-false}
 
 -- ---- membership
-
-or-false : (a : Bool) → (a || false) ≡ a
-or-false true = refl
-or-false false = refl
 
 or-turn : (a b : Bool) → (a || b) ≡ (b || a)
 or-turn true true = refl
@@ -23,14 +20,11 @@ or-turn true false = refl
 or-turn false true = refl
 or-turn false false = refl
 
-or-assoc : (a b c : Bool) → ((a || b) || c) ≡ (a || (b || c))
-or-assoc true b c = refl
-or-assoc false b c = refl
-
 pub or-right : (a b : Bool) → b ≡ true → (a || b) ≡ true
 or-right true b e = refl
 or-right false b e = e
 
+-- in one of two lists, one after the other
 pub memb-app : (s : ℕ) (a b : List ℕ) → memb s (a ++ b) ≡ (memb s a || memb s b)
 memb-app s [] b = refl
 memb-app s (x ∷ a) b = rw (memb-app s a b) (sym (or-assoc (eqb x s) (memb s a) (memb s b)))

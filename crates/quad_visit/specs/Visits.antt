@@ -23,7 +23,7 @@ pub record FourBelow (n s : ℕ) : Type 0 where
 abbrev pub bytesOf : ℕ → List ℕ
 bytesOf s = s / 16777216 % 256 ∷ s / 65536 % 256 ∷ s / 256 % 256 ∷ s % 256 ∷ []
 
--- of visits in turn the first of each set: those that are not among the visits before them, `earlier` and on
+-- of visits, one after another, the first of each set: one that was made before is left out; `earlier` are the visits before these
 abbrev pub firstVisits : List ℕ → List ℕ → List ℕ
 firstVisits earlier [] = []
 firstVisits earlier (s ∷ ss) = cond (memb s earlier) (firstVisits (s ∷ earlier) ss) (s ∷ firstVisits (s ∷ earlier) ss)
