@@ -1,5 +1,6 @@
 // What the programs that replay stored cases share: fields of a line that are read, fields of an
 // answer that are printed, both in the form of oracle/README.md.
+use libc::STDIN_FILENO;
 use libc::STDOUT_FILENO;
 use scan::Place;
 use scan_digits::Number;
@@ -8,6 +9,36 @@ ghost use Prim.Native.Nat.{_≤_, _%_};
 ghost use lib.ListN.{length, take, drop};
 ghost use Rattle.scan_digits.specs.Read.{readDecimal};
 ghost use Rattle.cases.specs.Fields.{afterSpace, fieldAfter, floatAt, numberAt, afterMember, memberAfter};
+
+// ---- lines
+
+// The next byte of standard input, or 256 at its end.
+fn next_byte() -> u64 {
+    let mut one = [0u8; 1];
+    if io::read_full(STDIN_FILENO, &mut one) == 0 {
+        return 256;
+    }
+    wide(one[0])
+}
+
+// Reads the next line of standard input with its newline, as far as there is room, and says how long it is.
+pub fn read_line(out: &mut [u8]) -> usize
+    ensures { λ r. ⌜ (r ≤ length (now (out .exit))) × (r ≡ length (take r (now (out .exit)))) ⌝ }
+{
+    let mut n = 0usize;
+    while n < out.len() {
+        let b = next_byte();
+        if 255 < b {
+            return n;
+        }
+        out[n] = (b % 256) as u8;
+        n += 1;
+        if b == 10 {
+            return n;
+        }
+    }
+    n
+}
 
 // ---- fields
 

@@ -114,18 +114,17 @@ fn square() -> RowLists {
 
 /// Errors at the limit, to the last bit of their squares; and limits that no rounding stays below.
 fn at_the_limit() -> Vec<Case> {
-    let grid: Vec<Row> = (0..9)
-        .map(|i| (f64::from(i % 3), f64::from(i / 3)))
-        .map(|(x, y)| (x, y, x, y))
-        .collect();
-    let with = |off: Row| RowLists::of(&[&grid[..], &[off]].concat());
-    // the squared error is 1; and the greatest float whose root is 1
-    let one = with((4.0, 1.0, 5.0, 1.0));
-    let most = with((4.0, 1.0, 5.0, 1.0 + 2f64.powi(-26)));
+    // the pool is three corners, whose plate is the unit one to the last bit; the fourth row is off
+    // by the limit, or by the root of the greatest float whose root is the limit
     let mut cases = Vec::new();
-    for limit in edges::around(1.0) {
-        for rows in [&one, &most] {
-            cases.push(run_case(rows, &[3; 10], limit, 30, 10));
+    for side in (-4..=4).map(|k| 2f64.powi(k)) {
+        for up in [0.0, side * 2f64.powi(-26)] {
+            let corners = [(0.0, 0.0, 0.0, 0.0), (1.0, 0.0, 1.0, 0.0), (0.0, 1.0, 0.0, 1.0)];
+            let off = (4.0, 1.0, 4.0 + side, 1.0 + up);
+            let rows = RowLists::of(&[&corners[..], &[off]].concat());
+            for limit in edges::around(side) {
+                cases.push(run_case(&rows, &[9, 9, 9, 0], limit, 10, 4));
+            }
         }
     }
     let mut random = Random::new(3, "no room for a rounding");
