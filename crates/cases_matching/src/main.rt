@@ -332,7 +332,7 @@ fn answer(s: &[u8], at: usize) {
 // Answers each line, of so many at most.
 fn main() {
     let mut line = [0u8; 16384];
-    for _ in 0..100000 {
+    for _ in 0..100000usize {
         let n = cases::read_line(&mut line);
         if n == 0 {
             return;
