@@ -138,7 +138,8 @@ pub fn ransac_fit(
     ensures nine { λ r. ⌜ (r ≡ CdRun.Refused Refusal.Few
         → NoneHasThree (rows (now (px .entry)) (now (py .entry)) (now (xi .entry)) (now (eta .entry))) limit (poolOf (now (votes .entry)) (length (now (px .entry)))) trials) ⌝ }
     ensures more { λ r. ⌜ ((k : ℕ) → r ≡ CdRun.Fitted k
-        → StillFitted (λ n. runAnswer (rows (now (px .entry)) (now (py .entry)) (now (xi .entry)) (now (eta .entry))) (now (votes .entry)) limit n (length (now (mask .entry)))) trials k) ⌝ }
+        → StillFitted (λ n. runAnswer
+        (rows (now (px .entry)) (now (py .entry)) (now (xi .entry)) (now (eta .entry))) (now (votes .entry)) limit n (length (now (mask .entry)))) trials k) ⌝ }
 {
     match check_run(px, py, xi, eta, votes.len(), limit, trials, mask.len()) {
         Answer::Refused(why) => CdRun::Refused(why),

@@ -31,7 +31,8 @@ pub fn ransac_fit(
     ensures on { λ r. ⌜ now (on .exit) ≡ onAfter
         (runAnswer (rows (now (px .entry)) (now (py .entry)) (now (xi .entry)) (now (eta .entry))) (now (votes .entry)) limit trials (length (now (mask .entry))))
         (now (on .entry)) ⌝ }
-    ensures demand { λ r. ⌜ Demanded (rows (now (px .entry)) (now (py .entry)) (now (xi .entry)) (now (eta .entry))) (now (votes .entry)) limit trials (length (now (mask .entry)))
+    ensures demand { λ r. ⌜ Demanded
+        (rows (now (px .entry)) (now (py .entry)) (now (xi .entry)) (now (eta .entry))) (now (votes .entry)) limit trials (length (now (mask .entry)))
         r (now (tested .exit)) (now (on .exit)) (now (mask .exit)) ⌝ }
 {
     match cd_run::ransac_fit(px, py, xi, eta, votes, limit, trials as usize, mask) {
