@@ -7,7 +7,7 @@ use Rattle.quad_stars.specs.declared.Four.{Four}
 use Rattle.quad_stars.specs.Stars.{four, distSq}
 use Rattle.quad_stars.proofs.Turned.{turned}
 use Rattle.quad_spine.specs.Spine.{longer, longest, inOrder, oriented, spineOf}
-use Rattle.quad_spine.proofs.Order.{lt-trans, lt-irrefl}
+use Rattle.order.proofs.Floats.{lt-trans, lt-irrefl}
 
 -- the squared distance of the first two stars
 abbrev pub spanOf : Four → Float
