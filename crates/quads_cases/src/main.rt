@@ -33,6 +33,14 @@ fn show_many() {
     show(b"a fifteenth star\n", &many);
 }
 
+// As many stars as there may be, all apart, whose quads are most of the sets of four that there are.
+fn show_most() {
+    show(
+        b"fourteen stars apart\n",
+        b"k=10\nmin_spine_sq=0000000000000000\nstar=0000000000000000,0000000000000000\nstar=4042800000000000,402a000000000000\nstar=4052800000000000,404a000000000000\nstar=4024000000000000,4034000000000000\nstar=4047800000000000,402c000000000000\nstar=4055000000000000,4041000000000000\nstar=4034000000000000,4054000000000000\nstar=404c800000000000,404b800000000000\nstar=4057800000000000,404c000000000000\nstar=403e000000000000,4054c00000000000\nstar=4050c00000000000,4043800000000000\nstar=4008000000000000,4035000000000000\nstar=4044000000000000,403d000000000000\nstar=4053400000000000,404f800000000000\n",
+    );
+}
+
 fn main() {
     show(b"k is 11\n", b"k=11\nmin_spine_sq=0000000000000000\n");
     show(
@@ -70,6 +78,7 @@ fn main() {
     );
     show(b"an empty text\n", b"");
     show_many();
+    show_most();
     show_longest();
     show_long();
 }

@@ -706,7 +706,9 @@ const VERIFY_PAIRS: Call = Call {
         let lists = rows::figures().into_iter().chain(rows::refused());
         let mut random = Random::new(1, "a hundred rows");
         let whole = rows::random(&mut random, 100); // as many as there may be
-        lists.chain([whole]).map(|rows| rows.fields()).collect()
+        let scattered = [3, 8, 200].into_iter().flat_map(scattered_rows);
+        let lists = lists.chain([whole, best_at_last()]).chain(scattered);
+        lists.map(|rows| rows.fields()).collect()
     },
     random: |random| {
         let n = random.one_of(&[0, 1, 2, 3, 4, 5, 7, 12]);
@@ -716,6 +718,56 @@ const VERIFY_PAIRS: Call = Call {
     theirs: |case| verify_pairs(case, theirs::matching::verify_pairs),
     ours: |case| verify_pairs(case, ours::matching::verify_pairs),
 };
+
+/// Rows of no plate, on a grid of so many places a side: how many agree with the best affine hangs on
+/// which triples are drawn, and so on the order of the rows.
+fn scattered_rows(side: u64) -> Vec<RowLists> {
+    let mut random = Random::new(side, "scattered");
+    let mut lists = Vec::new();
+    for n in [30, 60, 100] {
+        for _ in 0..6 {
+            let row = |_| {
+                let [px, py] = [(); 2].map(|()| (random.below(side) * (240 / side)) as f64);
+                let [xi, eta] = [(); 2].map(|()| random.between(0.0, 60.0));
+                (px, py, xi, eta)
+            };
+            lists.push(RowLists::of(&(0..n).map(row).collect::<Vec<_>>()));
+        }
+    }
+    lists
+}
+
+/// Ninety rows and some, in order, of which eight agree: three are those of the thousandth triple, and
+/// no earlier triple is of the eight.
+fn best_at_last() -> RowLists {
+    let mut random = Random::new(1, "best at last");
+    for n in (90..=100).rev() {
+        let mut word = 0xcafe_babe_dead_beef_u64;
+        let mut place = || {
+            word ^= word << 13;
+            word ^= word >> 7;
+            word ^= word << 17;
+            (word % n) as usize
+        };
+        let triples: Vec<[usize; 3]> = (0..1000).map(|_| [place(), place(), place()]).collect();
+        let (last, earlier) = triples.split_last().expect("a thousand");
+        for _ in 0..100 {
+            let mut eight = last.to_vec();
+            eight.extend((0..5).map(|_| random.below(n) as usize));
+            let different: std::collections::HashSet<_> = eight.iter().collect();
+            let is_of = |triple: &[usize; 3]| triple.iter().all(|place| eight.contains(place));
+            if different.len() == 8 && !earlier.iter().any(is_of) {
+                let row = |i: usize| {
+                    let (x, y) = (50.0 * i as f64, 50.0 * random.below(n) as f64);
+                    let [xi, eta] = [(); 2].map(|()| random.between(0.0, 1e6));
+                    if eight.contains(&i) { (x, y, x, y) } else { (x, y, xi, eta) }
+                };
+                return RowLists::of(&(0..n as usize).map(row).collect::<Vec<_>>());
+            }
+        }
+    }
+    unreachable!("a list is found")
+}
 
 /// Lists as long as they may be.
 const WHOLE_ROWS: Call = Call {

@@ -283,7 +283,8 @@ const SIGMA_CLIP: Call = Call {
         }
         // where that sum is zero, what is left may be one row or two, which are not fitted
         for left in [1, 2] {
-            let rows: Vec<Row> = (0..3).map(|i| (if i < left { 0.0 } else { 0.125 }, 0.0, 0.0, 0.0)).collect();
+            let rows: Vec<Row> =
+                (0..3).map(|i| (if i < left { 0.0 } else { 0.125 }, 0.0, 0.0, 0.0)).collect();
             cases.push(clip_case(&RowLists::of(&rows), &[1; 3], &UNIT, &[5e-324; 3]));
         }
         // one error among n: at nine rows it is the threshold itself, but for the roundings
