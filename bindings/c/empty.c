@@ -16,6 +16,9 @@ static const double unit[] = {1, 0, 0, 0, 1, 0}, wcs[] = {0, 0, 1, 0, 0, 1}, sum
 #define NONE NULL, 0
 #define ROWS NONE, NONE, NONE, NONE
 
+/* A call that is done and writes nothing. */
+#define DONE(name, ...) REFUSED(0, name, __VA_ARGS__)
+
 /* A call that is done and says that there is nothing. */
 #define NOTHING(name, ...) (lend(), due.count = 0, CALL(0, name, __VA_ARGS__))
 
@@ -48,7 +51,7 @@ static void plate(void)
     REFUSED(7, fit_cd_weighted, ROWS, NONE, NONE, NONE);
     REFUSED(8, fit_cd_weighted, ROWS, NONE, NONE, lent.cd, 6);
     REFUSED(2, compute_pixel_errors, ROWS, NONE, NONE, NONE);
-    REFUSED(0, compute_pixel_errors, ROWS, NONE, unit, 6, NONE);
+    DONE(compute_pixel_errors, ROWS, NONE, unit, 6, NONE);
     lend();
     due.byte = 0, due.count = 0; /* untested, and no row is on */
     CALL(0, ransac_fit, ROWS, NONE, 1, 1000, NONE, &lent.byte, &lent.count);
@@ -62,7 +65,7 @@ static void plate(void)
     due.rms = 0;
     CALL(0, rms_error, NONE, &lent.rms);
     CALL(0, weighted_rms_error, NONE, NONE, &lent.rms);
-    REFUSED(0, solve_normal_equations, NONE, NONE, 0, NONE);
+    DONE(solve_normal_equations, NONE, NONE, 0, NONE);
 }
 
 static void distortion(void)
