@@ -2,7 +2,7 @@
 use mathlib.Core.Path.{_≡_, refl}
 use native.Mathlib.Omega.{arith}
 use Rattle.answer.specs.declared.Refusal.{Refusal}
-use Rattle.answer.specs.declared.Refusal.the-variants.{Count, Lengths, Value, Place, Order, Rows, Room, Degenerate, Few, Form}
+use Rattle.answer.specs.declared.Refusal.the-variants.{Count, Lengths, Value, Place, Index, Order, Rows, Room, Degenerate, Few, Form}
 use Rattle.answer.specs.Answers.{numberOf}
 
 -- a refusal is not done
@@ -11,6 +11,7 @@ not-done Count e = omega arith
 not-done Lengths e = omega arith
 not-done Value e = omega arith
 not-done Place e = omega arith
+not-done Index e = omega arith
 not-done Order e = omega arith
 not-done Rows e = omega arith
 not-done Room e = omega arith
@@ -24,6 +25,7 @@ nine-is Count e = absurd (omega arith)
 nine-is Lengths e = absurd (omega arith)
 nine-is Value e = absurd (omega arith)
 nine-is Place e = absurd (omega arith)
+nine-is Index e = absurd (omega arith)
 nine-is Order e = absurd (omega arith)
 nine-is Rows e = absurd (omega arith)
 nine-is Room e = absurd (omega arith)

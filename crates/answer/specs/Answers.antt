@@ -1,11 +1,11 @@
 -- The numbers of the answers, their order, and what stands in a lent list or number after a call. Definitions only.
-use mathlib.Core.Bool.{cond}
+use mathlib.Core.Bool.{Bool, cond, _||_}
 use mathlib.Core.List.{List, _++_}
 use Prim.Native.Nat.{ℕ}
-use lib.Dec.{ltb}
+use lib.Dec.{ltb, eqb}
 use lib.ListN.{length, drop}
 use Rattle.answer.specs.declared.Refusal.{Refusal}
-use Rattle.answer.specs.declared.Refusal.the-variants.{Count, Lengths, Value, Place, Order, Rows, Room, Degenerate, Few, Form}
+use Rattle.answer.specs.declared.Refusal.the-variants.{Count, Lengths, Value, Place, Index, Order, Rows, Room, Degenerate, Few, Form}
 use Rattle.answer.specs.declared.Answer.{Answer}
 use Rattle.answer.specs.declared.Answer.the-variants.{Done, Refused}
 
@@ -15,6 +15,7 @@ numberOf Count = 1
 numberOf Lengths = 2
 numberOf Value = 3
 numberOf Place = 4
+numberOf Index = 11
 numberOf Order = 5
 numberOf Rows = 6
 numberOf Room = 7
@@ -36,9 +37,13 @@ first (Refused why) next = Refused why
 abbrev pub roomFor : ℕ → ℕ → Answer
 roomFor need places = cond (ltb places need) (Refused Room) Done
 
--- a refusal whose number is below 7 comes before that of the room, and any other after it
+-- a refusal is checked for before the room: numbers 1 to 6, and 11, which stands after 4
+abbrev pub beforeRoom : Refusal → Bool
+beforeRoom why = ltb (numberOf why) 7 || eqb (numberOf why) 11
+
+-- such a refusal comes before that of the room, and any other after it
 abbrev pub inTurn : Refusal → Answer → Answer
-inTurn why room = cond (ltb (numberOf why) 7) (Refused why) (first room (Refused why))
+inTurn why room = cond (beforeRoom why) (Refused why) (first room (Refused why))
 
 -- the result written from the front of the old list, whose further places keep their values
 abbrev pub written : {A : Type 0} → List A → List A → List A

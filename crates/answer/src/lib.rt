@@ -1,6 +1,6 @@
 // How a call ends: done, or refused by number.
 ghost use mathlib.Core.Path.{_≡_};
-ghost use Rattle.answer.specs.Answers.{numberOf, answerNumber, roomFor, inTurn};
+ghost use Rattle.answer.specs.Answers.{numberOf, answerNumber, roomFor, beforeRoom, inTurn};
 
 // A refusal, in the order in which the calls check for it.
 pub enum Refusal {
@@ -12,6 +12,8 @@ pub enum Refusal {
     Value,
     // a place is outside its list
     Place,
+    // the index does not belong to this list
+    Index,
     // the SIP order is outside its range
     Order,
     // too few rows for a SIP fit
@@ -36,6 +38,7 @@ impl Refusal {
             Refusal::Lengths => 2,
             Refusal::Value => 3,
             Refusal::Place => 4,
+            Refusal::Index => 11,
             Refusal::Order => 5,
             Refusal::Rows => 6,
             Refusal::Room => 7,
@@ -74,11 +77,19 @@ pub fn room_for(need: usize, places: usize) -> Answer
     Answer::Done
 }
 
-// A refusal beside lists that may lack room: the lower number comes first.
+// Whether a refusal is checked for before the room: 1 to 6, and 11.
+fn is_before_room(why: Refusal) -> bool
+    ensures { λ r. ⌜ r ≡ beforeRoom why ⌝ }
+{
+    let number = why.number();
+    (number < 7) | (number == 11)
+}
+
+// A refusal beside lists that may lack room: the one that is checked for first.
 pub fn in_turn(why: Refusal, room: Answer) -> Answer
     ensures { λ r. ⌜ r ≡ inTurn why room ⌝ }
 {
-    if why.number() < 7 {
+    if is_before_room(why) {
         return Answer::Refused(why);
     }
     match room {
