@@ -13,13 +13,13 @@ use Rattle.hash_lanes.specs.Lanes.{hashAt, Laned, baseOf, nearAt, stepsAt, numb
 use Rattle.hash_lanes.proofs.Number.{steps-small, number-is}
 use Rattle.hash_near.specs.Over.{over, each}
 use Rattle.hash_near.specs.Near.{nearOne, nearFrom}
-use Rattle.hash_near.proofs.Over.{append-nil}
+use Rattle.hash_near.proofs.Over.{append-nil, over-same}
 use Rattle.hash_near.proofs.Near.{one-near, one-far, near-most}
 use Rattle.hash_write.specs.Write.{eight, pick, ofNumber, byNumber}
 use Rattle.hash_write.proofs.Writing.{from-first}
 use Rattle.hash_index.specs.Matches.{matchAt, keyMatches, quadMatches, matchesOf}
 use Rattle.hash_index.specs.Steps.{nearTo, nearMatches}
-use Rattle.hash_index.proofs.Sums.{over-same, each-over, over-times, over-bound, turned, once}
+use Rattle.hash_index.proofs.Sums.{each-over, over-times, over-bound, turned, once}
 
 module _ (places : List ℕ) (i : ℕ) (catalogue lanes : List ℕ) (base : Base) where
   -- the match with catalogue quad j, where it is near and its number is n

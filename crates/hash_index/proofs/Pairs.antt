@@ -15,7 +15,8 @@ use Rattle.hash_lanes.proofs.Number.{keyNumber, key-number}
 use Rattle.hash_near.specs.Over.{over}
 use Rattle.hash_write.specs.Write.{eight}
 use Rattle.hash_index.specs.Matches.{matchAt, keyMatches, quadMatches, matchesOf}
-use Rattle.hash_index.proofs.Sums.{over-same, over-bound, turned, once}
+use Rattle.hash_near.proofs.Over.{over-same}
+use Rattle.hash_index.proofs.Sums.{over-bound, turned, once}
 
 -- the key numbers for which two quads match are the same
 pub once-only : (hashes others : List Float) (i j n k : ℕ) → n < 81 → k < 81

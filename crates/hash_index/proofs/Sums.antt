@@ -10,11 +10,6 @@ use lib.Dec.{ltb, eqb}
 use lib.ListN.{length, length-append}
 use Rattle.hash_near.specs.Over.{over, each}
 
--- equal at each number, equal in all
-pub over-same : {A : Type 0} (f g : ℕ → List A) (i n : ℕ) → ((j : ℕ) → i ≤ j → j < i + n → f j ≡ g j) → over f i n ≡ over g i n
-over-same f g i zero h = refl
-over-same f g i (suc n) h = rw (h i (omega arith) (omega arith), over-same f g (suc i) n (λ j p q. h j (omega arith) (omega arith)))
-
 each-append : {A B : Type 0} (f : A → List B) (xs ys : List A) → each f (xs ++ ys) ≡ each f xs ++ each f ys
 each-append f [] ys = refl
 each-append f (x ∷ xs) ys = rw (each-append f xs ys) (sym (append-assoc (f x) (each f xs) (each f ys)))

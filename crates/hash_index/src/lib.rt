@@ -38,7 +38,7 @@ fn is_whole(places: &[u8], hashes: &[f64]) -> bool
 }
 
 // The tests of the input, in their order.
-fn check_input(places: &[u8], hashes: &[f64], catalogue: &[u8], others: &[f64]) -> Answer
+pub fn check_input(places: &[u8], hashes: &[f64], catalogue: &[u8], others: &[f64]) -> Answer
     ensures { λ r. ⌜ r ≡ inputAnswer (length (now (places .entry))) (length (now (hashes .entry)))
         (length (now (catalogue .entry))) (length (now (others .entry))) ⌝ }
 {

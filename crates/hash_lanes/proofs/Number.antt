@@ -114,7 +114,7 @@ to-steps a b c d n h = go (ltb a 3) (ltb b 3) (ltb c 3) (ltb d 3) (ltb-true a 3)
     go false q r s f g i j e = absurd (omega arith)
 
 -- two tests that hold together
-same-test : (a b c d : ℕ) → (a ≡ b → c ≡ d) → (c ≡ d → a ≡ b) → eqb a b ≡ eqb c d
+pub same-test : (a b c d : ℕ) → (a ≡ b → c ≡ d) → (c ≡ d → a ≡ b) → eqb a b ≡ eqb c d
 same-test a b c d f g = go (eqb a b) (eqb-true a b) (eqb-false a b)
   where
     go : (t : Bool) → (t ≡ true → a ≡ b) → (t ≡ false → a ≡ b → ⊥) → t ≡ eqb c d

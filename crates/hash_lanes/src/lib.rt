@@ -15,7 +15,7 @@ pub struct Base {
 }
 
 // The hash of quad q.
-fn hash_at(hashes: &[f64], q: usize) -> Hash
+pub fn hash_at(hashes: &[f64], q: usize) -> Hash
     requires { ⌜ 4 * q + 4 ≤ length (now hashes) ⌝ }
     ensures { λ r. ⌜ r ≡ hashAt (now (hashes .entry)) q ⌝ }
 {

@@ -24,7 +24,14 @@ fn write_four(places: &[u8], q: usize, matches: &mut [u8], p: usize)
 }
 
 // Writes the match of image quad i and catalogue quad j at p: four places of each.
-fn write_match(places: &[u8], i: usize, catalogue: &[u8], j: usize, matches: &mut [u8], p: usize)
+pub fn write_match(
+    places: &[u8],
+    i: usize,
+    catalogue: &[u8],
+    j: usize,
+    matches: &mut [u8],
+    p: usize,
+)
     requires { ⌜ i < 65536 ⌝ ∗ ⌜ j < 65536 ⌝ ∗ ⌜ p + 8 ≤ length (now matches) ⌝ }
     ensures { λ r. ⌜ now (matches .exit) ≡ sets (now (matches .entry)) p (eight (now (places .entry)) i (now (catalogue .entry)) j) ⌝ }
 {

@@ -29,6 +29,10 @@ unfolding neighbourKeys
 keys-at h k d l = counted-at (neighbourKey h) 0 81 k d l ∙ ap (neighbourKey h) (omega arith)
 
 -- a key holds its four lanes
+pub unpacked : {p q r s p' q' r' s' : ℕ} → p < 65536 → q < 65536 → r < 65536 → p' < 65536 → q' < 65536 → r' < 65536
+    → packed p q r s ≡ packed p' q' r' s' → (p ≡ p') × (q ≡ q') × (r ≡ r') × (s ≡ s')
+unpacked a b c a' b' c' e = (omega arith, omega arith, omega arith, omega arith)
+
 record Same (g h : Hash) (a b c d a' b' c' d' : ℕ) : Type 0 where
   lane0 : laneOf (g .h0) a ≡ laneOf (h .h0) a'
   lane1 : laneOf (g .h1) b ≡ laneOf (h .h1) b'
@@ -39,10 +43,6 @@ same-lanes : (g h : Hash) (a b c d a' b' c' d' : ℕ) → keyAt g a b c d ≡ ke
 same-lanes g h a b c d a' b' c' d' e =
     let s = unpacked (lane-small (g .h0) a) (lane-small (g .h1) b) (lane-small (g .h2) c) (lane-small (h .h0) a') (lane-small (h .h1) b') (lane-small (h .h2) c') e in
     record { lane0 = s .0; lane1 = s .1; lane2 = s .2; lane3 = s .3 }
-  where
-    unpacked : {p q r s p' q' r' s' : ℕ} → p < 65536 → q < 65536 → r < 65536 → p' < 65536 → q' < 65536 → r' < 65536
-        → packed p q r s ≡ packed p' q' r' s' → (p ≡ p') × (q ≡ q') × (r ≡ r') × (s ≡ s')
-    unpacked a b c a' b' c' e = (omega arith, omega arith, omega arith, omega arith)
 
 -- a number and its four steps
 digits : (i : ℕ) → i ≡ 27 * (i / 27) + 9 * (i / 9 % 3) + 3 * (i / 3 % 3) + i % 3
