@@ -1,0 +1,4 @@
+pub mod Merging
+pub mod Ends
+pub mod Built
+pub mod Belongs
