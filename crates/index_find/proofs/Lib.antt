@@ -1,0 +1,5 @@
+pub mod Arith
+pub mod Near
+pub mod Call
+pub mod Kept
+pub mod Same
