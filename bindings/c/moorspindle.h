@@ -11,7 +11,7 @@
    nothing else that is lent to the same call.
 
    ANSWERS. A call that returns uint32_t answers 0 when it is done, or refuses by the number of
-   the first of these that holds:
+   the first of these that holds, in this order:
 
         1  a count is outside its limit
         2  lengths that belong together differ
@@ -19,6 +19,7 @@
            float (hashes, the numbers of an rms, of equations, a record's coefficients and
            sums) has no domain to be outside of
         4  a place is outside its list
+       11  the index does not belong to this list
         5  the SIP order is outside 2..5
         6  too few rows for a SIP fit
         7  the result needs more places than the lent output has
@@ -117,6 +118,25 @@ uint32_t moorspindle_find_matches(
         const double *image_hashes, size_t image_hashes_len,
         const uint8_t *catalogue_places, size_t catalogue_places_len,
         const double *catalogue_hashes, size_t catalogue_hashes_len,
+        uint8_t *matches, size_t matches_len, uint64_t *found);
+
+/* The index of a list of catalogue quads, built once and good for every search in that list. It
+   has two words for each quad: first the keys, lane 0 in their highest 16 bits, rising, and of
+   equal ones that of the smaller place first; then the places in that order. Refuses with 1 2 7. */
+uint32_t moorspindle_build_hash_index(
+        const double *catalogue_hashes, size_t catalogue_hashes_len,
+        uint64_t *table, size_t table_len);
+
+/* The matches, their order and their number of moorspindle_find_matches, found by the index of the
+   catalogue quads: the same answers in a small part of the time. The table is looked through on
+   every call. One that does not start with the index of these very hashes, as a shorter one cannot,
+   is number 11; words past the index are not read. Refuses with 1 2 11 7. */
+uint32_t moorspindle_find_matches_indexed(
+        const uint8_t *image_places, size_t image_places_len,
+        const double *image_hashes, size_t image_hashes_len,
+        const uint8_t *catalogue_places, size_t catalogue_places_len,
+        const double *catalogue_hashes, size_t catalogue_hashes_len,
+        const uint64_t *table, size_t table_len,
         uint8_t *matches, size_t matches_len, uint64_t *found);
 
 /* The pairs of detections and catalogue results that the matches vote for: each pair has two

@@ -1,4 +1,4 @@
--- The settled examples P1 to P13, and exact cases of the sums, the elimination and the polynomials, as one table over the written meanings, each row by computation.
+-- The settled examples P1 to P13, an index, and exact cases of the sums, the elimination and the polynomials, as one table over the written meanings, each row by computation.
 use mathlib.Core.Path.{_≡_, refl}
 use mathlib.Core.List.{List, [], _∷_}
 use Prim.Native.Nat.{ℕ}
@@ -28,6 +28,8 @@ use Rattle.quad_normal.specs.declared.Normal.the-variants as normal
 use Rattle.quad_normal.specs.Normal.{along, across, cFirst, hashOf, leastScale, normalOf, normalAnswer}
 use Rattle.quad_key.specs.declared.Hash.{Hash}
 use Rattle.quad_key.specs.Key.{laneOf, keyOf, neighbourKey}
+use Rattle.hash_lanes.specs.Lanes.{hashAt}
+use Rattle.index_table.specs.Table.{turned, quadKey, byKey, tableOf}
 use Rattle.sip_terms.specs.Terms.{termAt, valueTo, valueOf}
 use Rattle.cd_pool.specs.Pool.{greatest, leastOf, placesFrom, poolOf}
 use Rattle.draw.specs.Draw.{nextWord}
@@ -62,6 +64,10 @@ ys = zero ∷ zero ∷ one ∷ one ∷ []
 -- its hash
 abbrev square : Hash
 square = record { h0 = half; h1 = neg half; h2 = half; h3 = half }
+
+-- the hashes of three quads: the square's, one of zeros, and the square's again
+abbrev squares : List Float
+squares = half ∷ neg half ∷ half ∷ half ∷ zero ∷ zero ∷ zero ∷ zero ∷ half ∷ neg half ∷ half ∷ half ∷ []
 
 -- detections 0 and 1, and catalogue ids 7 and 9
 abbrev stars : Ids
@@ -102,6 +108,8 @@ pub record Table : Type 0 where
   pub p2 : neighbourKey square 0 ≡ 0x0225_0225_01c1_0225
   -- P3: its key number 40 is its own
   pub p3 : neighbourKey square 40 ≡ keyOf square
+  -- the index of the square's quad, one of zeros and the square's again: the keys, lane 0 highest, and the places
+  pub index : tableOf squares 3 ≡ 0x01f4_01f4_01f4_01f4 ∷ 0x0226_01c2_0226_0226 ∷ 0x0226_01c2_0226_0226 ∷ 1 ∷ 0 ∷ 2 ∷ []
   -- P4 to P8: the lanes of -0.001, -5.5, 655, 1e300 and -1e300, the last as for 0
   pub p4 : laneOf (float 0xbf50_624d_d2f1_a9fc) 1 ≡ 499
   pub p5 : laneOf (float 0xc016_0000_0000_0000) 1 ≡ 65486
@@ -131,12 +139,13 @@ pub record Table : Type 0 where
 
 -- each row holds by computation
 pub table : Table
-unfolding spineAnswer normalAnswer fourAnswer starsAnswer placesAnswer every starAt fourAt distSq longer longest inOrder oriented spineOf placesOf along across cFirst hashOf leastScale normalOf neighbourKey keyOf laneOf floorOf toSigned ofInt ofBits neg mul add sub div lt eq le poolOf placesFrom leastOf greatest nextWord votesOf counts isFor votesAt better choose claim paired pairsOf clipTests weighedAnswer positionRows isCd clipFrom roundOf filled ones squaresTo clipOf anyRejected determinantOf inverseOf squareOf rootOf sumsTo magnitudeOf powerOf pivotRow eliminateFrom rowLess unknownsTo termAt valueTo
+unfolding spineAnswer normalAnswer fourAnswer starsAnswer placesAnswer every starAt fourAt distSq longer longest inOrder oriented spineOf placesOf along across cFirst hashOf leastScale normalOf neighbourKey keyOf laneOf tableOf byKey quadKey turned hashAt floorOf toSigned ofInt ofBits neg mul add sub div lt eq le poolOf placesFrom leastOf greatest nextWord votesOf counts isFor votesAt better choose claim paired pairsOf clipTests weighedAnswer positionRows isCd clipFrom roundOf filled ones squaresTo clipOf anyRejected determinantOf inverseOf squareOf rootOf sumsTo magnitudeOf powerOf pivotRow eliminateFrom rowLess unknownsTo termAt valueTo
 table = record {
   p1-spine = refl;
   p1-hash = refl;
   p2 = refl;
   p3 = refl;
+  index = refl;
   p4 = refl;
   p5 = refl;
   p6 = refl;

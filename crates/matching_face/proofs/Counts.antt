@@ -15,6 +15,8 @@ use Rattle.hash_index.specs.declared.Matches.{Matches}
 use Rattle.hash_index.specs.declared.Matches.the-variants as matches
 use Rattle.hash_index.specs.Matches.{answerAfter, matchesOf, matchesAnswer}
 use Rattle.hash_index.specs.Matches as search
+use Rattle.index_table.specs.Table.{belongs}
+use Rattle.index_find.specs.Indexed.{afterTable, indexedAnswer}
 use Rattle.aggregate.specs.declared.Pairs.the-variants as pairs
 use Rattle.aggregate.specs.Extract.{Given, Room, inputAnswer, placeAnswer, roomAnswer, found, foundAfter, pairsAnswer}
 
@@ -26,6 +28,10 @@ after : (a : Answer) (found : Matches) (m n : ℕ) → (found ≡ matches.Found 
 after answer.Done found m n f e = f e
 after (answer.Refused why) found m n f e = let z : _≡_ {A = ℕ} 0 1 = cc in absurd (omega arith)
 
+of-table : (b : Bool) (found : Matches) (m n : ℕ) → (found ≡ matches.Found n → n ≡ m) → afterTable b found ≡ matches.Found n → n ≡ m
+of-table true found m n f e = f e
+of-table false found m n f e = let z : _≡_ {A = ℕ} 0 1 = cc in absurd (omega arith)
+
 -- the matches that are found
 pub matches-counted : (places : List ℕ) (hashes : List Float) (catalogue : List ℕ) (others : List Float) (room n : ℕ)
     → matchesAnswer places hashes catalogue others room ≡ matches.Found n → n ≡ length (matchesOf places hashes catalogue others) / 8
@@ -33,6 +39,15 @@ unfolding matchesAnswer search.roomAnswer
 matches-counted places hashes catalogue others room n e =
     let m = length (matchesOf places hashes catalogue others) in
     after (search.inputAnswer (length places) (length hashes) (length catalogue) (length others)) (search.roomAnswer m room) (m / 8) n (in-room (ltb room m) (m / 8) n) e
+
+-- those that are found by an index, of which m places are written
+pub indexed-counted : (places : List ℕ) (hashes : List Float) (catalogue : List ℕ) (others : List Float) (table : List ℕ) (m room n : ℕ)
+    → indexedAnswer places hashes catalogue others table m room ≡ matches.Found n → n ≡ m / 8
+unfolding indexedAnswer search.roomAnswer
+indexed-counted places hashes catalogue others table m room n e =
+    let own = belongs table others (length catalogue / 4) in
+    after (search.inputAnswer (length places) (length hashes) (length catalogue) (length others)) (afterTable own (search.roomAnswer m room)) (m / 8) n
+    (of-table own (search.roomAnswer m room) (m / 8) n (in-room (ltb room m) (m / 8) n)) e
 
 after-tests : (a : Answer) (m n : ℕ) → foundAfter a m ≡ pairs.Found n → n ≡ m
 after-tests answer.Done m n e = cc

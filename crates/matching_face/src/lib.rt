@@ -1,4 +1,4 @@
-// The search and the votes for C: each call answers its number, and writes its result into what is lent.
+// The index, the searches and the votes for C: each call answers its number, and writes its result into what is lent.
 use aggregate::Pairs;
 use hash_index::Matches;
 ghost use mathlib.Core.Path.{_≡_};
@@ -7,6 +7,7 @@ ghost use Rattle.answer.specs.Answers.{answerNumber, lentAfter, numberAfter};
 ghost use Rattle.hash_index.specs.Matches.{matchesOf};
 ghost use Rattle.aggregate.specs.Extract.{given, room, pairXs, pairYs, pairRas, pairDecs, pairVotes, pairSnrs};
 ghost use Rattle.matching_face.specs.Face.{matchesFace, matchesCount, pairsFace, pairsCount};
+ghost use Rattle.matching_face.specs.Index.{IndexBuilt, MatchesFound};
 
 // The matches of the image quads (places, hashes) with the catalogue quads (catalogue, others), eight
 // places each, and how many they are.
@@ -30,6 +31,35 @@ pub fn find_matches(
         (now (found .entry)) ⌝ }
 {
     match hash_index::find_matches(places, hashes, catalogue, others, matches) {
+        Matches::Refused(why) => why.number(),
+        Matches::Found(count) => {
+            *found = count as u64;
+            0
+        }
+    }
+}
+
+// The index of the catalogue quads with these hashes, two words for each.
+pub fn build_hash_index(hashes: &[f64], table: &mut [u64]) -> u32
+    ensures { λ r. ⌜ IndexBuilt (now (hashes .entry)) (now (table .entry)) r (now (table .exit)) ⌝ }
+{
+    index_build::build_hash_index(hashes, table).number()
+}
+
+// The matches that find_matches gives, by the index of the catalogue quads, and how many they are.
+pub fn find_matches_indexed(
+    places: &[u8],
+    hashes: &[f64],
+    catalogue: &[u8],
+    others: &[f64],
+    table: &[u64],
+    matches: &mut [u8],
+    found: &mut u64,
+) -> u32
+    ensures { λ r. ⌜ MatchesFound (now (places .entry)) (now (hashes .entry)) (now (catalogue .entry)) (now (others .entry))
+        (now (table .entry)) (now (matches .entry)) (now (found .entry)) r (now (matches .exit)) (now (found .exit)) ⌝ }
+{
+    match index_find::find_matches_indexed(places, hashes, catalogue, others, table, matches) {
         Matches::Refused(why) => why.number(),
         Matches::Found(count) => {
             *found = count as u64;

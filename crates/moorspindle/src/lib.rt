@@ -16,6 +16,7 @@ ghost use Rattle.quad_face.specs.Face.{startFace, startWritten, stepPlaces, ste
 ghost use Rattle.hash_index.specs.Matches.{matchesOf};
 ghost use Rattle.aggregate.specs.Extract.{given, room, pairXs, pairYs, pairRas, pairDecs, pairVotes, pairSnrs};
 ghost use Rattle.matching_face.specs.Face.{matchesFace, matchesCount, pairsFace, pairsCount};
+ghost use Rattle.matching_face.specs.Index.{IndexBuilt, MatchesFound};
 ghost use Rattle.verify_order.specs.Sorted.{sortedRows};
 ghost use Rattle.verify.specs.Score.{NoneBetter};
 ghost use Rattle.verify_face.specs.Face.{affineFace, affineWritten, inliersFace, inliersCount, scoreFace, scoreCount};
@@ -240,6 +241,29 @@ pub extern "C" fn moorspindle_find_matches(
         (now (found .entry)) ⌝ }
 {
     matching_face::find_matches(places, hashes, catalogue, others, matches, found)
+}
+
+#[no_mangle]
+pub extern "C" fn moorspindle_build_hash_index(hashes: &[f64], table: &mut [u64]) -> u32
+    ensures { λ r. ⌜ IndexBuilt (now (hashes .entry)) (now (table .entry)) r (now (table .exit)) ⌝ }
+{
+    matching_face::build_hash_index(hashes, table)
+}
+
+#[no_mangle]
+pub extern "C" fn moorspindle_find_matches_indexed(
+    places: &[u8],
+    hashes: &[f64],
+    catalogue: &[u8],
+    others: &[f64],
+    table: &[u64],
+    matches: &mut [u8],
+    found: &mut u64,
+) -> u32
+    ensures { λ r. ⌜ MatchesFound (now (places .entry)) (now (hashes .entry)) (now (catalogue .entry)) (now (others .entry))
+        (now (table .entry)) (now (matches .entry)) (now (found .entry)) r (now (matches .exit)) (now (found .exit)) ⌝ }
+{
+    matching_face::find_matches_indexed(places, hashes, catalogue, others, table, matches, found)
 }
 
 #[no_mangle]
