@@ -36,6 +36,8 @@ static struct quads {
     uint64_t count;
 } image, catalogue;
 
+static uint64_t table[2 * QUADS]; /* the catalogue's index */
+
 struct rows {
     double px[MOST], py[MOST], xi[MOST], eta[MOST], snr[MOST], weights[MOST];
     uint32_t votes[MOST];
@@ -126,16 +128,25 @@ static uint32_t find_image_quads(double up)
     return find_quads(x, y, detections.count, &image);
 }
 
+/* Quads of the catalogue, and their index, which serves the picture both ways up. */
+static uint32_t find_catalogue_quads(void)
+{
+    uint32_t no = find_quads(stars.xi, stars.eta, stars.count, &catalogue);
+    if (no == 0)
+        no = moorspindle_build_hash_index(catalogue.hashes, 4 * catalogue.count, table, 2 * QUADS);
+    return no;
+}
+
 /* The pairs that the matches of both lists of quads vote for. */
 static uint32_t find_pairs(struct rows *pairs, uint64_t *found)
 {
     static uint8_t matches[8 * MATCHES];
     size_t n = detections.count, m = stars.count;
     uint64_t count = 0;
-    uint32_t no = moorspindle_find_matches(
+    uint32_t no = moorspindle_find_matches_indexed(
             image.places, 4 * image.count, image.hashes, 4 * image.count,
             catalogue.places, 4 * catalogue.count, catalogue.hashes, 4 * catalogue.count,
-            matches, 8 * MATCHES, found);
+            table, 2 * QUADS, matches, 8 * MATCHES, found);
     if (no == 0)
         no = moorspindle_extract_pairs(matches, 8 * *found,
                 detections.x, n, detections.y, n, detections.snr, n,
@@ -161,7 +172,7 @@ static uint32_t find_rows(void)
 {
     static struct rows pairs;
     uint64_t best = 0, found, score;
-    uint32_t no = find_quads(stars.xi, stars.eta, stars.count, &catalogue);
+    uint32_t no = find_catalogue_quads();
     for (int flipped = 0; flipped < 2 && no == 0; flipped++) {
         no = find_image_quads(flipped ? 1.0 : -1.0);
         if (no == 0)

@@ -36,6 +36,8 @@ static void quads(void)
 static void pairs(void)
 {
     NOTHING(find_matches, NONE, NONE, NONE, NONE, NONE, &lent.count);
+    DONE(build_hash_index, NONE, NONE);
+    NOTHING(find_matches_indexed, NONE, NONE, NONE, NONE, NONE, NONE, &lent.count);
     NOTHING(extract_pairs, NONE, NONE, NONE, NONE, NONE, NONE, NONE, NONE, NONE, NONE, NONE, NONE, NONE, NONE, NONE,
             &lent.count);
     REFUSED(4, fit_affine_3pt, ROWS, 0, 0, 0, NONE);

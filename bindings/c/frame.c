@@ -20,6 +20,7 @@ static struct {
     uint64_t count;
 } image, catalogue;
 
+static uint64_t table[2 * QUADS];
 static uint8_t matches[8 * MATCHES];
 
 static struct {
@@ -51,7 +52,8 @@ static void make_stars(void)
     }
 }
 
-/* Quads of both lists, those of one shape, and the pairs that they vote for. */
+/* Quads of both lists, those of one shape, by an index that serves every image of the field, and the
+   pairs that they vote for. */
 static uint32_t find_pairs(void)
 {
     uint64_t found;
@@ -61,9 +63,12 @@ static uint32_t find_pairs(void)
         no = moorspindle_neighbor_quads(stars.xi, STARS, stars.eta, STARS, 5, 0.0,
                 catalogue.places, 4 * QUADS, catalogue.hashes, 4 * QUADS, &catalogue.count);
     if (no == 0)
-        no = moorspindle_find_matches(image.places, 4 * image.count, image.hashes, 4 * image.count,
+        no = moorspindle_build_hash_index(catalogue.hashes, 4 * catalogue.count, table, 2 * QUADS);
+    if (no == 0)
+        no = moorspindle_find_matches_indexed(
+                image.places, 4 * image.count, image.hashes, 4 * image.count,
                 catalogue.places, 4 * catalogue.count, catalogue.hashes, 4 * catalogue.count,
-                matches, 8 * MATCHES, &found);
+                table, 2 * QUADS, matches, 8 * MATCHES, &found);
     if (no != 0)
         return no;
     printf("%" PRIu64 " and %" PRIu64 " quads, %" PRIu64 " matches\n",

@@ -7,7 +7,7 @@
 struct lent {
     double px_x[3], px_y[3], ra[3], dec[3], snr[3];
     double affine[7];
-    uint64_t count;
+    uint64_t count, table[5];
     uint32_t votes[3];
     uint8_t matches[20];
 };
@@ -20,6 +20,12 @@ static const double hash[] = {0.5, -0.5, 0.5, 0.5};
 static const uint8_t crowd[48004];
 static const uint8_t catalogue[] = {4, 5, 6, 7, 0, 1, 2, 3};
 static const double hashes[] = {0.5, -0.5, 0.5, 0.51, 0.5, -0.5, 0.5, 0.5};
+static const double far[48004];
+
+/* the catalogue's index, with a word past it; with the places turned; and that of the first quad alone */
+static const uint64_t table[] = {0x022601c202260226, 0x022601c202260227, 1, 0, 77};
+static const uint64_t turned[] = {0x022601c202260226, 0x022601c202260227, 0, 1};
+static const uint64_t fewer[] = {0x022601c202260227, 0, 1, 0};
 
 /* two matches for two detections: 0 and 7 have three votes, 1 and 7 two, 1 and 9 two */
 static const uint8_t votes[] = {0, 0, 0, 1, 0, 0, 0, 0, 1, 1, 1, 255, 0, 1, 1, 0};
@@ -53,6 +59,54 @@ static void matches(void)
     REFUSED(1, find_matches, crowd, 48004, hash, 3, CATALOGUE, lent.matches, 20, &lent.count);
     REFUSED(2, find_matches, image, 3, hash, 4, CATALOGUE, lent.matches, 20, &lent.count);
     REFUSED(7, find_matches, IMAGE, CATALOGUE, lent.matches, 15, &lent.count);
+}
+
+static void an_index(void)
+{
+    lend();
+    memcpy(due.table, table, 4 * sizeof *table);
+    CALL(0, build_hash_index, hashes, 8, lent.table, 5);
+    REFUSED(1, build_hash_index, far, 48004, lent.table, 5);
+    REFUSED(2, build_hash_index, hashes, 7, lent.table, 3);
+    REFUSED(7, build_hash_index, hashes, 8, lent.table, 3);
+}
+
+static void matches_by_index(void)
+{
+    static const uint8_t found[] = {0, 3, 1, 2, 0, 1, 2, 3, 0, 3, 1, 2, 4, 5, 6, 7};
+    lend();
+    memcpy(lent.table, table, sizeof table), memcpy(due.table, table, sizeof table);
+    memcpy(due.matches, found, sizeof found);
+    due.count = 2;
+    CALL(0, find_matches_indexed, IMAGE, CATALOGUE, lent.table, 4, lent.matches, 20, &lent.count);
+    CALL(0, find_matches_indexed, IMAGE, CATALOGUE, lent.table, 5, lent.matches, 16, &lent.count);
+    REFUSED(1, find_matches_indexed, crowd, 48004, hash, 3, CATALOGUE, turned, 4, lent.matches, 20, &lent.count);
+    REFUSED(2, find_matches_indexed, IMAGE, catalogue, 8, hashes, 7, turned, 4, lent.matches, 20, &lent.count);
+    REFUSED(11, find_matches_indexed, IMAGE, CATALOGUE, table, 3, lent.matches, 20, &lent.count);
+    REFUSED(11, find_matches_indexed, IMAGE, CATALOGUE, turned, 4, lent.matches, 20, &lent.count);
+    REFUSED(11, find_matches_indexed, IMAGE, CATALOGUE, fewer, 4, lent.matches, 15, &lent.count);
+    REFUSED(11, find_matches_indexed, IMAGE, catalogue, 4, hashes, 4, table, 4, lent.matches, 20, &lent.count);
+    REFUSED(7, find_matches_indexed, IMAGE, CATALOGUE, table, 4, lent.matches, 15, &lent.count);
+}
+
+/* More matches than a search by the index keeps from its count: both searches write the same. Of 400
+   quads 134 are of one shape and 266 of another. */
+static void many_matches(void)
+{
+    enum { NUMBERS = 1600, FOUND = 134 * 134 + 266 * 266 };
+    static double shapes[NUMBERS];
+    static uint8_t places[NUMBERS], plain[8 * FOUND], indexed[8 * FOUND];
+    static uint64_t words[NUMBERS / 2];
+    for (int i = 0; i < NUMBERS; i++)
+        shapes[i] = i / 4 % 3 == 0 ? 0.5 : -0.5, places[i] = (uint8_t)(i * 7);
+    lend();
+    CALL(0, build_hash_index, shapes, NUMBERS, words, NUMBERS / 2);
+    due.count = FOUND;
+    CALL(0, find_matches, places, NUMBERS, shapes, NUMBERS, places, NUMBERS, shapes, NUMBERS,
+            plain, sizeof plain, &lent.count);
+    CALL(0, find_matches_indexed, places, NUMBERS, shapes, NUMBERS, places, NUMBERS, shapes, NUMBERS,
+            words, NUMBERS / 2, indexed, sizeof indexed, &lent.count);
+    wrong += memcmp(plain, indexed, sizeof plain) != 0;
 }
 
 static void pairs(void)
@@ -97,6 +151,9 @@ static void affines(void)
 int main(void)
 {
     matches();
+    an_index();
+    matches_by_index();
+    many_matches();
     pairs();
     affines();
     return verdict();

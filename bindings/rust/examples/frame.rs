@@ -3,7 +3,7 @@
 
 use std::error::Error;
 
-use moorspindle::matching::{self, Detections, Ids, Results};
+use moorspindle::matching::{self, Detections, Ids, Index, Results};
 use moorspindle::plate::{self, Cd, Clip, Run, Wcs};
 use moorspindle::{Rows, affine, quad, record, sip};
 
@@ -13,10 +13,11 @@ fn main() -> Result<(), Box<dyn Error>> {
     let (x, y) = image();
     let (xi, eta): (Vec<f64>, Vec<f64>) = x.iter().zip(&y).map(|(&x, &y)| sky(x, y)).unzip();
 
-    // quads of both lists, and those of one shape
+    // quads of both lists, and those of one shape, by an index that serves every image of the field
     let in_image = quad::neighbor_quads(&x, &y, 5, 0.0)?;
     let in_catalogue = quad::neighbor_quads(&xi, &eta, 5, 0.0)?;
-    let matches = matching::find_matches(&in_image, &in_catalogue)?;
+    let index = Index::build(&in_catalogue)?;
+    let matches = matching::find_matches_indexed(&in_image, &in_catalogue, &index)?;
     println!("{} and {} quads, {} matches", in_image.len(), in_catalogue.len(), matches.len());
 
     // each match votes for four pairs

@@ -85,6 +85,27 @@ unsafe extern "C" {
         matches_len: usize,
         found: *mut u64,
     ) -> u32;
+    pub fn moorspindle_build_hash_index(
+        catalogue_hashes: *const f64,
+        catalogue_hashes_len: usize,
+        table: *mut u64,
+        table_len: usize,
+    ) -> u32;
+    pub fn moorspindle_find_matches_indexed(
+        image_places: *const u8,
+        image_places_len: usize,
+        image_hashes: *const f64,
+        image_hashes_len: usize,
+        catalogue_places: *const u8,
+        catalogue_places_len: usize,
+        catalogue_hashes: *const f64,
+        catalogue_hashes_len: usize,
+        table: *const u64,
+        table_len: usize,
+        matches: *mut u8,
+        matches_len: usize,
+        found: *mut u64,
+    ) -> u32;
     pub fn moorspindle_extract_pairs(
         matches: *const u8,
         matches_len: usize,

@@ -42,6 +42,8 @@ pub enum Refusal {
     Degenerate = 8,
     /// The CD run ended with fewer than three rows on.
     Few = 9,
+    /// The index does not belong to this list.
+    Index = 11,
 }
 
 impl Refusal {
@@ -61,6 +63,7 @@ impl Refusal {
             7 => Refusal::Room,
             8 => Refusal::Degenerate,
             9 => Refusal::Few,
+            11 => Refusal::Index,
             other => unreachable!("no call answers {other}"),
         }
     }
@@ -78,6 +81,7 @@ impl Display for Refusal {
             Refusal::Room => "the result needs more places than there are",
             Refusal::Degenerate => "a spine, a determinant or a pivot is too small",
             Refusal::Few => "the draw ended with fewer than three rows on",
+            Refusal::Index => "the index does not belong to this list",
         })
     }
 }

@@ -1,4 +1,4 @@
-//! Matches of quads, and the pairs that their votes make.
+//! Matches of quads, by an index too, and the pairs that their votes make.
 
 use crate::quad::Quads;
 use crate::{Refusal, Result, done, ffi};
@@ -42,19 +42,8 @@ impl FromIterator<Match> for Matches {
 
 /// Every pair of quads of one shape: by image quad, then key number, then catalogue quad.
 pub fn find_matches(image: &Quads, catalogue: &Quads) -> Result<Matches> {
-    let mut room = FIRST_ROOM;
-    loop {
-        match find_in(image, catalogue, room) {
-            Err(Refusal::Room) => room *= 8,
-            answer => return answer,
-        }
-    }
-}
-
-fn find_in(image: &Quads, catalogue: &Quads, room: usize) -> Result<Matches> {
-    let (mut matches, mut found) = (vec![0; 8 * room], 0);
     // SAFETY: each pointer goes with its length, and the outputs overlap nothing else
-    done(unsafe {
+    with_room(|matches, found| unsafe {
         ffi::moorspindle_find_matches(
             image.places.as_ptr(),
             image.places.len(),
@@ -66,11 +55,78 @@ fn find_in(image: &Quads, catalogue: &Quads, room: usize) -> Result<Matches> {
             catalogue.hashes.len(),
             matches.as_mut_ptr(),
             matches.len(),
-            &mut found,
+            found,
         )
-    })?;
-    matches.truncate(8 * found as usize);
-    Ok(Matches(matches))
+    })
+}
+
+/// The index of a list of catalogue quads: built once, it is good for every search in that list.
+///
+/// ```
+/// use moorspindle::matching::{Index, find_matches, find_matches_indexed};
+/// use moorspindle::quad::{Quads, neighbor_quads};
+///
+/// let catalogue = neighbor_quads(&[0.0, 1.0, 0.0, 1.0], &[0.0, 0.0, 1.0, 1.0], 3, 0.0)?;
+/// let index = Index::build(&catalogue)?;
+/// for image in [catalogue.clone(), Quads::default()] {
+///     let matches = find_matches_indexed(&image, &catalogue, &index)?;
+///     assert_eq!(matches, find_matches(&image, &catalogue)?);
+/// }
+/// # Ok::<(), moorspindle::Refusal>(())
+/// ```
+#[derive(Clone, Debug, PartialEq, Eq)]
+pub struct Index(Vec<u64>);
+
+impl Index {
+    /// Refused with [`Refusal::Count`] above 12,000 quads.
+    pub fn build(catalogue: &Quads) -> Result<Index> {
+        let hashes = &catalogue.hashes;
+        let mut table = vec![0; 2 * catalogue.len()];
+        // SAFETY: as above
+        done(unsafe {
+            let (out, room) = (table.as_mut_ptr(), table.len());
+            ffi::moorspindle_build_hash_index(hashes.as_ptr(), hashes.len(), out, room)
+        })?;
+        Ok(Index(table))
+    }
+}
+
+/// The matches of [`find_matches`], in their order, by the catalogue list's index: in a small part of
+/// the time. The index of another list is refused with [`Refusal::Index`].
+pub fn find_matches_indexed(image: &Quads, catalogue: &Quads, index: &Index) -> Result<Matches> {
+    // SAFETY: as above
+    with_room(|matches, found| unsafe {
+        ffi::moorspindle_find_matches_indexed(
+            image.places.as_ptr(),
+            image.places.len(),
+            image.hashes.as_ptr(),
+            image.hashes.len(),
+            catalogue.places.as_ptr(),
+            catalogue.places.len(),
+            catalogue.hashes.as_ptr(),
+            catalogue.hashes.len(),
+            index.0.as_ptr(),
+            index.0.len(),
+            matches.as_mut_ptr(),
+            matches.len(),
+            found,
+        )
+    })
+}
+
+/// Asks again with more room until there is enough.
+fn with_room(find: impl Fn(&mut [u8], &mut u64) -> u32) -> Result<Matches> {
+    let mut room = FIRST_ROOM;
+    loop {
+        let (mut matches, mut found) = (vec![0; 8 * room], 0);
+        match done(find(&mut matches, &mut found)) {
+            Err(Refusal::Room) => room *= 8,
+            answer => {
+                matches.truncate(8 * found as usize);
+                return answer.map(|()| Matches(matches));
+            }
+        }
+    }
 }
 
 /// Detections: their pixels and their signal to noise. The lists are of one length.

@@ -3,7 +3,8 @@
 
 use moorspindle::affine::{Affine, count_affine_inliers, fit_affine_3pt, verify_pairs};
 use moorspindle::matching::{
-    Detections, Ids, Match, Matches, Results, extract_pairs, find_matches,
+    Detections, Ids, Index, Match, Matches, Results, extract_pairs, find_matches,
+    find_matches_indexed,
 };
 use moorspindle::plate::{self, Cd, Clip, Run, Wcs};
 use moorspindle::quad::{self, Quads, Star};
@@ -80,6 +81,31 @@ fn matches_and_pairs() {
 }
 
 #[test]
+fn matches_by_an_index() {
+    let square = quad::neighbor_quads(&XS, &YS, 3, 0.0).unwrap();
+    let bent = quad::neighbor_quads(&XS, &[0.0, 0.1, 1.0, 1.0], 3, 0.0).unwrap();
+    let many: Quads = (0..150).flat_map(|_| square.iter().chain(bent.iter())).collect();
+    let index = Index::build(&many).unwrap();
+    for image in [&square, &bent, &many, &Quads::default()] {
+        let plain = find_matches(image, &many);
+        assert_eq!(find_matches_indexed(image, &many, &index), plain);
+    }
+    // more than there is room for at first
+    assert!(find_matches_indexed(&many, &many, &index).unwrap().len() >= 2 * 150 * 150);
+
+    assert_eq!(find_matches_indexed(&square, &bent, &index), Err(Refusal::Index));
+    let other = Index::build(&square).unwrap();
+    assert_eq!(find_matches_indexed(&square, &many, &other), Err(Refusal::Index));
+    assert_eq!(find_matches_indexed(&square, &bent, &other), Err(Refusal::Index));
+
+    let none = Index::build(&Quads::default()).unwrap();
+    assert_eq!(find_matches_indexed(&many, &Quads::default(), &none), Ok(Matches::default()));
+    assert_eq!(find_matches_indexed(&many, &square, &none), Err(Refusal::Index));
+    let long: Quads = (0..12_001).flat_map(|_| square.iter()).collect();
+    assert_eq!(Index::build(&long), Err(Refusal::Count));
+}
+
+#[test]
 fn affine_of_three_rows() {
     let unit = Affine { a11: 1.0, a12: 0.0, tx: 0.0, a21: 0.0, a22: 1.0, ty: 0.0 };
     assert_eq!(fit_affine_3pt(ROWS, [0, 1, 2]), Ok(unit));
@@ -144,4 +170,6 @@ fn sip_and_record() {
 fn a_refusal_says_why() {
     let refusal = quad::combinations_4(101).unwrap_err();
     assert_eq!((refusal.number(), refusal.to_string()), (1, "a count is outside its limit".into()));
+    let words = "the index does not belong to this list".to_string();
+    assert_eq!((Refusal::Index.number(), Refusal::Index.to_string()), (11, words));
 }
