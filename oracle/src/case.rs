@@ -1,9 +1,9 @@
 //! A case and its answer: fields, written on one line and separated by one space.
 //!
 //! A float is the 16 lowercase hex digits of its bits, every NaN 7ff8000000000000. A number is
-//! decimal, and an id the 16 digits of its two's complement. A list has commas between its members,
-//! and an empty one is `-`. The line of a case starts with its call's name; the line of an answer
-//! does not.
+//! decimal, and an id the 16 digits of its two's complement, as is a word of a table. A list has
+//! commas between its members, and an empty one is `-`. The line of a case starts with its call's
+//! name; the line of an answer does not.
 
 use std::fmt::{self, Display};
 
@@ -70,6 +70,11 @@ impl Fields {
         self.with(Field::Ids(list.to_vec()))
     }
 
+    /// Words, in the form of ids.
+    pub fn words(self, list: &[u64]) -> Fields {
+        self.with(Field::Ids(list.iter().map(|&word| word as i64).collect()))
+    }
+
     pub fn float_at(&self, place: usize) -> f64 {
         match &self.0[place] {
             Field::Float(x) => *x,
@@ -103,6 +108,10 @@ impl Fields {
             Field::Ids(list) => list,
             other => panic!("field {place} is no list of ids: {other:?}"),
         }
+    }
+
+    pub fn words_at(&self, place: usize) -> Vec<u64> {
+        self.ids_at(place).iter().map(|&id| id as u64).collect()
     }
 
     /// A damaged copy: in one of its floats or lists of floats a bit is turned, a NaN or an infinity

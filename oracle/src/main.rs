@@ -69,6 +69,9 @@ fn run(words: &[&str]) -> Outcome<bool> {
                 println!("## {}\n", group.title);
                 bench::print(&(group.bench)(&mut Random::new(1, group.name)));
                 println!();
+                for line in (group.tables)(&mut Random::new(1, group.name)) {
+                    println!("{line}");
+                }
             }
         }
         ["stack"] => stack(300)?,

@@ -2,13 +2,14 @@
 //! untouched ones.
 
 use celestial_catalog::query::{
-    QuadStar, discrete_hash_key_neighbors, find_spine, normalize_quad_ordered,
+    Quad, QuadStar, discrete_hash_key, discrete_hash_key_neighbors, find_spine,
+    normalize_quad_ordered,
 };
 use celestial_solver::Row;
 use celestial_solver::fit_wcs::{
     fit_sip, fit_sip_in_order, ransac_fit, ransac_fit_of, sigma_clip_loop_weighted,
 };
-use celestial_solver::match_field::verify_pairs;
+use celestial_solver::match_field::{build_hash_index, find_matches, verify_pairs};
 
 /// Rows on a plate, bent a little; each fifth one is off.
 fn plate() -> (Vec<Row>, Vec<usize>) {
@@ -28,6 +29,18 @@ fn the_square_of_four_stars() {
     let (hash, places) = normalize_quad_ordered(&stars, a, b, c, d).unwrap();
     assert_eq!((hash, places), ([0.5, -0.5, 0.5, 0.5], [0, 3, 1, 2]));
     assert_eq!(discrete_hash_key_neighbors(&hash)[0], 0x0225_0225_01c1_0225);
+}
+
+#[test]
+fn the_index_has_the_places_of_each_key() {
+    let quad = |(place, hash)| Quad { star_indices: [place; 4], hash: [hash; 4] };
+    let catalogue = [(7, 0.5), (8, 0.9), (9, 0.5), (10, 0.51)].map(quad);
+    let index = build_hash_index(&catalogue);
+    assert_eq!(index[&discrete_hash_key(&[0.5; 4])], [0, 2]);
+    let matches = find_matches(&catalogue[..1], &catalogue, &index);
+    let places: Vec<usize> =
+        matches.iter().map(|found| found.catalog_quad.star_indices[0]).collect();
+    assert_eq!(places, [7, 9, 10]);
 }
 
 #[test]

@@ -264,6 +264,31 @@ pub fn ids_at(s: &[u8], at: usize, out: &mut [i64]) -> usize
     n
 }
 
+// The word at a place, by its 16 digits; 0 where none stands there.
+fn bits_at(s: &[u8], at: usize) -> u64 {
+    match scan_digits::read_hex(s, at) {
+        Number::Is(bits, _) => bits,
+        Number::Wrong(_) => 0,
+    }
+}
+
+// The words of a list that stands at a place, as many as there is room for.
+pub fn words_at(s: &[u8], at: usize, out: &mut [u64]) -> usize
+    ensures { λ r. ⌜ (r ≤ length (now (out .exit))) × (r ≡ length (take r (now (out .exit)))) ⌝ }
+{
+    let mut p = at;
+    let mut n = 0usize;
+    while n < out.len() {
+        if !is_float(s, p) {
+            return n;
+        }
+        out[n] = bits_at(s, p);
+        p = after_float(s, p);
+        n += 1;
+    }
+    n
+}
+
 // ---- answers
 
 pub fn print_number(n: u64)

@@ -1,10 +1,32 @@
-// Replays cases of the search, the votes and the affine score: a case a line on standard input, its
-// answer a line on standard output, in the form of oracle/README.md. A lent output starts filled with
-// the byte a5, as there.
+// Replays cases of the index, the searches, the votes and the affine score: a case a line on standard
+// input, its answer a line on standard output, in the form of oracle/README.md. A lent output starts
+// filled with the byte a5, as there.
 use libc::STDOUT_FILENO;
 use scan::Place;
 
-// ---- find_matches
+// ---- the index and the searches
+
+fn build_hash_index(s: &[u8], at: usize) {
+    let mut hashes = [0.0; 1024];
+    let mut table = [0xa5a5a5a5a5a5a5a5u64; 1024];
+    let n = cases::floats_at(s, at, &mut hashes);
+    let room = cases::words_room(s, cases::field(s, at, 1), &table);
+    call_build_hash_index(&hashes[..n], &mut table[..room]);
+}
+
+fn call_build_hash_index(hashes: &[f64], table: &mut [u64]) {
+    let number = matching_face::build_hash_index(hashes, table);
+    cases::print_number(number as u64);
+    cases::print_words(table);
+    cases::print_end();
+}
+
+fn print_matches(number: u32, matches: &[u8], found: u64) {
+    cases::print_number(number as u64);
+    cases::print_bytes(matches);
+    cases::print_field(found);
+    cases::print_end();
+}
 
 fn call_find_matches(
     places: &[u8],
@@ -22,10 +44,7 @@ fn call_find_matches(
         matches,
         &mut found,
     );
-    cases::print_number(number as u64);
-    cases::print_bytes(matches);
-    cases::print_field(found);
-    cases::print_end();
+    print_matches(number, matches, found);
 }
 
 fn lend_find_matches(
@@ -41,7 +60,68 @@ fn lend_find_matches(
     call_find_matches(places, hashes, catalogue, others, &mut matches[..room]);
 }
 
-fn find_matches(s: &[u8], at: usize) {
+fn call_find_matches_indexed(
+    places: &[u8],
+    hashes: &[f64],
+    catalogue: &[u8],
+    others: &[f64],
+    table: &[u64],
+    matches: &mut [u8],
+) {
+    let mut found = 0xa5a5a5a5a5a5a5a5u64;
+    let number = matching_face::find_matches_indexed(
+        places,
+        hashes,
+        catalogue,
+        others,
+        table,
+        matches,
+        &mut found,
+    );
+    print_matches(number, matches, found);
+}
+
+fn lend_find_matches_indexed(
+    s: &[u8],
+    at: usize,
+    places: &[u8],
+    hashes: &[f64],
+    catalogue: &[u8],
+    others: &[f64],
+) {
+    let mut table = [0u64; 1024];
+    let mut matches = [0xa5u8; 4096];
+    let n = cases::words_at(s, cases::field(s, at, 4), &mut table);
+    let room = cases::bytes_room(s, cases::field(s, at, 5), &matches);
+    call_find_matches_indexed(
+        places,
+        hashes,
+        catalogue,
+        others,
+        &table[..n],
+        &mut matches[..room],
+    );
+}
+
+// Answers the case of quads by the index, or by the plain search.
+fn answer_quads(
+    s: &[u8],
+    at: usize,
+    indexed: bool,
+    places: &[u8],
+    hashes: &[f64],
+    catalogue: &[u8],
+    others: &[f64],
+) {
+    if indexed {
+        lend_find_matches_indexed(s, at, places, hashes, catalogue, others);
+        return;
+    }
+    lend_find_matches(s, at, places, hashes, catalogue, others);
+}
+
+// The case of either search begins with the four lists.
+fn read_quads(s: &[u8], at: usize, indexed: bool) {
     let mut places = [0u8; 1024];
     let mut hashes = [0.0; 1024];
     let mut catalogue = [0u8; 1024];
@@ -50,9 +130,10 @@ fn find_matches(s: &[u8], at: usize) {
     let b = cases::floats_at(s, cases::field(s, at, 1), &mut hashes);
     let c = cases::bytes_at(s, cases::field(s, at, 2), &mut catalogue);
     let d = cases::floats_at(s, cases::field(s, at, 3), &mut others);
-    lend_find_matches(
+    answer_quads(
         s,
         at,
+        indexed,
         &places[..a],
         &hashes[..b],
         &catalogue[..c],
@@ -307,7 +388,15 @@ fn read_rows(s: &[u8], at: usize, call: u8) {
 // Answers the case that starts at a place; a line that is no case has the answer "?".
 fn answer(s: &[u8], at: usize) {
     if let Place::Next(p) = scan::read_bytes(s, at, b"find_matches ") {
-        find_matches(s, p);
+        read_quads(s, p, false);
+        return;
+    }
+    if let Place::Next(p) = scan::read_bytes(s, at, b"build_hash_index ") {
+        build_hash_index(s, p);
+        return;
+    }
+    if let Place::Next(p) = scan::read_bytes(s, at, b"find_matches_indexed ") {
+        read_quads(s, p, true);
         return;
     }
     if let Place::Next(p) = scan::read_bytes(s, at, b"extract_pairs ") {

@@ -8,7 +8,7 @@ use celestial_catalog::query;
 use celestial_solver::detect::DetectedStar;
 use celestial_solver::match_field;
 
-use super::Row;
+use super::{Row, index};
 use crate::ours::matching::{Pairs, Quads, Voters};
 use crate::random::Random;
 use crate::rows::{self, RowLists};
@@ -16,12 +16,15 @@ use crate::{ours, theirs};
 
 const ROWS: usize = 16;
 
+/// The places and the hashes of a list of quads.
+pub type Lists = (Vec<u8>, Vec<f64>);
+
 /// A frame: the quads of a hundred stars, those of the same stars a little off, turned and scaled,
 /// and the matches of the two.
 #[derive(Clone)]
 struct Frame {
-    image: (Vec<u8>, Vec<f64>),
-    catalogue: (Vec<u8>, Vec<f64>),
+    image: Lists,
+    catalogue: Lists,
     matches: Vec<u8>,
     numbers: Vec<f64>,
     ids: Vec<u32>,
@@ -38,7 +41,8 @@ pub fn rows(random: &mut Random) -> Vec<Row> {
     let tuples: Vec<Vec<celestial_solver::Row>> = scattered.iter().map(tuples_of).collect();
     let output = RefCell::new(vec![0; 8 * 1_000_000]);
     let pairs = RefCell::new(room());
-    vec![
+    let indexed = index::rows(&frame[0].image, &frame[0].catalogue);
+    let mut rows = vec![
         Row::over("matches of 7,300 x 7,300", "Moorspindle", &frame, move |frame| {
             let mut found = 0;
             let image = quads_of(&frame.image);
@@ -55,9 +59,13 @@ pub fn rows(random: &mut Random) -> Vec<Row> {
             let [image, catalogue] = [&frame[0].image, &frame[0].catalogue]
                 .map(|lists| theirs::matching::quads_of(quads_of(lists)));
             Row::over("matches of 7,300 x 7,300", "the Rust", &[()], move |_| {
-                match_field::find_matches(&image, &catalogue)
+                let index = match_field::build_hash_index(&catalogue);
+                match_field::find_matches(&image, &catalogue, &index)
             })
         },
+    ];
+    rows.extend(indexed);
+    rows.extend([
         Row::over("pairs of their votes", "Moorspindle", &frame, move |frame| {
             let mut count = 0;
             let mut pairs = pairs.borrow_mut();
@@ -102,21 +110,15 @@ pub fn rows(random: &mut Random) -> Vec<Row> {
         Row::over("verify_pairs of 100", "the Rust", &tuples, |rows| {
             match_field::verify_pairs(rows)
         }),
-    ]
+    ]);
+    rows
 }
 
 /// The plate of `rows::random`.
 const AFFINE: [f64; 6] = [0.5, -0.25, 3.0, 0.25, 0.5, -7.0];
 
 fn frame(random: &mut Random) -> Frame {
-    let points: Vec<(f64, f64)> =
-        (0..100).map(|_| (random.between(0.0, 4096.0), random.between(0.0, 4096.0))).collect();
-    let moved = points.iter().map(|&(x, y)| {
-        let [u, v] = [(); 2].map(|()| random.between(-0.3, 0.3));
-        (0.8 * x - 0.6 * y + u, 0.6 * x + 0.8 * y + v)
-    });
-    let catalogue = quads_among(&moved.collect::<Vec<_>>());
-    let image = quads_among(&points);
+    let [image, catalogue] = same_field(random);
     let mut matches = vec![0; 8 * 1_000_000];
     let mut found = 0;
     theirs::matching::find_matches(
@@ -136,14 +138,34 @@ fn frame(random: &mut Random) -> Frame {
     }
 }
 
-fn quads_among(points: &[(f64, f64)]) -> (Vec<u8>, Vec<f64>) {
+fn points(random: &mut Random) -> Vec<(f64, f64)> {
+    (0..100).map(|_| (random.between(0.0, 4096.0), random.between(0.0, 4096.0))).collect()
+}
+
+/// The quads of a hundred stars.
+pub fn field(random: &mut Random) -> Lists {
+    quads_among(&points(random))
+}
+
+/// The quads of a hundred stars, and those of the same stars turned and a little off.
+pub fn same_field(random: &mut Random) -> [Lists; 2] {
+    let points = points(random);
+    let moved = points.iter().map(|&(x, y)| {
+        let [u, v] = [(); 2].map(|()| random.between(-0.3, 0.3));
+        (0.8 * x - 0.6 * y + u, 0.6 * x + 0.8 * y + v)
+    });
+    let moved: Vec<_> = moved.collect();
+    [&points, &moved].map(|points| quads_among(points))
+}
+
+fn quads_among(points: &[(f64, f64)]) -> Lists {
     let stars: Vec<_> = points.iter().map(|&(x, y)| theirs::quad::star(x, y)).collect();
     let quads = query::neighbor_quads(&stars, 10, 0.0);
     let places = quads.iter().flat_map(|quad| quad.star_indices.map(|place| place as u8));
     (places.collect(), quads.iter().flat_map(|quad| quad.hash).collect())
 }
 
-fn quads_of((places, hashes): &(Vec<u8>, Vec<f64>)) -> Quads<'_> {
+pub fn quads_of((places, hashes): &Lists) -> Quads<'_> {
     Quads { places, hashes }
 }
 

@@ -26,6 +26,7 @@ pub const GROUP: Group = Group {
     also: &[LARGE_SYSTEMS],
     notes: |_| Vec::new(),
     bench: bench::cd::rows,
+    tables: |_| Vec::new(),
 };
 
 /// What a lent output holds before the call.

@@ -14,6 +14,7 @@ pub const GROUP: Group = Group {
     also: &[HARDWARE, SUBNORMAL, SOFTWARE],
     notes: |random| vec![distance_of_pow(random)],
     bench: bench::floats::rows,
+    tables: |_| Vec::new(),
 };
 
 const MAGNITUDE: Call = Call {

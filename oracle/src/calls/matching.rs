@@ -3,6 +3,8 @@
 //! A lent output starts filled with a pattern, and an answer holds it whole, so that a place that
 //! was not to be written shows when it was.
 
+use super::index::{BESIDE, BUILD_HASH_INDEX, CROWDED, FIND_MATCHES_INDEXED, LARGE};
+use super::index::{LONG_INDEX, LONG_SEARCH, MANY};
 use super::{Call, Group};
 use crate::case::{Answer, Case, Kind};
 use crate::ours::matching::{Pairs, Quads, Rows, Voters};
@@ -13,20 +15,40 @@ use crate::{bench, edges, ours, theirs};
 pub const GROUP: Group = Group {
     name: "matching",
     title: "From quads to the affine score",
-    calls: &[FIND_MATCHES, EXTRACT_PAIRS, FIT_AFFINE_3PT, COUNT_AFFINE_INLIERS, VERIFY_PAIRS],
-    also: &[MANY_QUADS, MILLION_FOUND, MILLION_VOTED, WHOLE_ROWS],
+    calls: &[
+        FIND_MATCHES,
+        BUILD_HASH_INDEX,
+        FIND_MATCHES_INDEXED,
+        EXTRACT_PAIRS,
+        FIT_AFFINE_3PT,
+        COUNT_AFFINE_INLIERS,
+        VERIFY_PAIRS,
+    ],
+    also: &[
+        MANY_QUADS,
+        MILLION_FOUND,
+        LONG_INDEX,
+        LONG_SEARCH,
+        BESIDE,
+        CROWDED,
+        MANY,
+        LARGE,
+        MILLION_VOTED,
+        WHOLE_ROWS,
+    ],
     notes: |_| Vec::new(),
     bench: bench::matching::rows,
+    tables: bench::index::tables,
 };
 
 /// What a lent output holds before the call.
-const BYTE: u8 = 0xa5;
-const WORD: u64 = 0xa5a5_a5a5_a5a5_a5a5;
+pub const BYTE: u8 = 0xa5;
+pub const WORD: u64 = 0xa5a5_a5a5_a5a5_a5a5;
 const FLOAT: f64 = f64::from_bits(WORD);
 
 // ---- find_matches
 
-const FIND_MATCHES: Call = Call {
+pub const FIND_MATCHES: Call = Call {
     name: "find_matches",
     takes: &[
         Kind::Numbers, // the places of the image quads
@@ -122,23 +144,31 @@ fn million_found(case: &Case, by: FindMatches) -> Answer {
 
 /// Two lists that may differ in length.
 #[derive(Clone)]
-struct QuadLists {
-    places: Vec<u8>,
-    hashes: Vec<f64>,
+pub struct QuadLists {
+    pub places: Vec<u8>,
+    pub hashes: Vec<f64>,
 }
 
 impl QuadLists {
-    fn of(hashes: &[[f64; 4]]) -> QuadLists {
+    pub fn of(hashes: &[[f64; 4]]) -> QuadLists {
         let places = (0..4 * hashes.len()).map(|place| (place * 7 % 251) as u8).collect();
         QuadLists { places, hashes: hashes.concat() }
     }
 
-    fn quads(&self) -> Quads<'_> {
+    /// The image quads and the catalogue quads of a case.
+    pub fn both(case: &Case) -> [QuadLists; 2] {
+        [0, 2].map(|place| QuadLists {
+            places: case.numbers_at(place),
+            hashes: case.floats_at(place + 1).to_vec(),
+        })
+    }
+
+    pub fn quads(&self) -> Quads<'_> {
         Quads { places: &self.places, hashes: &self.hashes }
     }
 
     /// The same with one place or hash number too few, or one more of both.
-    fn uneven(&self) -> [QuadLists; 3] {
+    pub fn uneven(&self) -> [QuadLists; 3] {
         let mut lists = [self.clone(), self.clone(), self.clone()];
         lists[0].places.pop();
         lists[1].hashes.pop();
@@ -148,24 +178,27 @@ impl QuadLists {
     }
 }
 
-fn matches_case(image: &QuadLists, catalogue: &QuadLists, room: usize) -> Case {
-    let lists = Case::new().numbers(&image.places).floats(&image.hashes);
-    lists.numbers(&catalogue.places).floats(&catalogue.hashes).number(room as u64)
+pub fn matches_case(image: &QuadLists, catalogue: &QuadLists, room: usize) -> Case {
+    lists_case(image, catalogue).number(room as u64)
 }
 
-type FindMatches = fn(Quads, Quads, &mut [u8], &mut u64) -> u32;
+/// What the case of a search starts with.
+pub fn lists_case(image: &QuadLists, catalogue: &QuadLists) -> Case {
+    let lists = Case::new().numbers(&image.places).floats(&image.hashes);
+    lists.numbers(&catalogue.places).floats(&catalogue.hashes)
+}
+
+pub type FindMatches = fn(Quads, Quads, &mut [u8], &mut u64) -> u32;
 
 fn find_matches(case: &Case, by: FindMatches) -> Answer {
-    let [places, others] = [0, 2].map(|place| case.numbers_at::<u8>(place));
-    let image = Quads { places: &places, hashes: case.floats_at(1) };
-    let catalogue = Quads { places: &others, hashes: case.floats_at(3) };
+    let [image, catalogue] = QuadLists::both(case);
     let (mut matches, mut found) = (vec![BYTE; case.number_at(4)], WORD);
-    let number = by(image, catalogue, &mut matches, &mut found);
+    let number = by(image.quads(), catalogue.quads(), &mut matches, &mut found);
     Answer::new().number(number).numbers(&matches).number(found)
 }
 
 /// How many places the matches take; 0 where they are refused.
-fn room_for(image: &QuadLists, catalogue: &QuadLists) -> usize {
+pub fn room_for(image: &QuadLists, catalogue: &QuadLists) -> usize {
     let mut found = 0;
     let room = 2 * image.places.len() * catalogue.places.len();
     let mut matches = vec![BYTE; room.min(8 * 4_000_000)];
@@ -174,7 +207,7 @@ fn room_for(image: &QuadLists, catalogue: &QuadLists) -> usize {
 }
 
 /// Each hash number at the edges, in each of the four places in turn.
-fn edge_hashes(every: usize) -> Vec<[f64; 4]> {
+pub fn edge_hashes(every: usize) -> Vec<[f64; 4]> {
     let turns = [-5.0, -5.01, 650.35, 650.36, 21_474_831.47, 21_474_831.48, 21_474_836.47];
     let numbers: Vec<f64> = edges::specials()
         .into_iter()
@@ -187,7 +220,7 @@ fn edge_hashes(every: usize) -> Vec<[f64; 4]> {
 }
 
 /// The hash with steps of one and two hundredths, in one number and in all.
-fn steps_from(hash: [f64; 4]) -> Vec<[f64; 4]> {
+pub fn steps_from(hash: [f64; 4]) -> Vec<[f64; 4]> {
     let mut hashes = Vec::new();
     for step in [-0.02, -0.01, 0.01, 0.02] {
         for place in 0..4 {
@@ -216,7 +249,7 @@ fn random_quads(random: &mut Random, most: u64) -> QuadLists {
     }
 }
 
-fn random_hash(random: &mut Random, wide: f64) -> [f64; 4] {
+pub fn random_hash(random: &mut Random, wide: f64) -> [f64; 4] {
     let style = random.below(12);
     [0.5, -0.5, 1.0, 0.0].map(|middle| match style {
         0 => random.pattern(),

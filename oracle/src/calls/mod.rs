@@ -6,6 +6,7 @@ use crate::random::Random;
 
 mod cd;
 mod floats;
+mod index;
 mod matching;
 mod quad;
 mod record;
@@ -57,6 +58,8 @@ pub struct Group {
     pub notes: fn(&mut Random) -> Vec<String>,
     /// What `bench` times.
     pub bench: fn(&mut Random) -> Vec<Row>,
+    /// The lines of further tables of times, which `bench` prints below.
+    pub tables: fn(&mut Random) -> Vec<String>,
 }
 
 pub fn group(name: &str) -> Option<&'static Group> {

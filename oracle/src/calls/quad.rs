@@ -25,6 +25,7 @@ pub const GROUP: Group = Group {
     also: &[WHOLE_LISTS],
     notes: |_| Vec::new(),
     bench: bench::quad::rows,
+    tables: |_| Vec::new(),
 };
 
 /// What a lent output holds before the call.

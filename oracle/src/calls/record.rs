@@ -18,6 +18,7 @@ pub const GROUP: Group = Group {
     also: &[REAL_FITS],
     notes: |_| Vec::new(),
     bench: bench::record::rows,
+    tables: |_| Vec::new(),
 };
 
 /// What a lent output holds before the call.

@@ -21,6 +21,7 @@ pub const GROUP: Group = Group {
     also: &[WHOLE_RUNS, WHOLE_CLIPS],
     notes: |_| Vec::new(),
     bench: bench::run::rows,
+    tables: |_| Vec::new(),
 };
 
 /// What a lent output holds before the call.

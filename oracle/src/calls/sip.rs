@@ -21,6 +21,7 @@ pub const GROUP: Group = Group {
     also: &[REJECTING],
     notes: |random| (2..=5).map(|order| distance_of_untouched(random, order)).collect(),
     bench: bench::sip::rows,
+    tables: |_| Vec::new(),
 };
 
 /// What a lent output holds before the call.

@@ -127,8 +127,8 @@ mod tests {
         *x = x.next_up();
         let (steps, _) = walked(&THEIRS, &frame);
         let equal = answers_equal(&steps, &walked(&OURS, &other).0);
-        assert!(equal[0], "the catalogue's quads do not read detections");
-        assert!(equal[1..].contains(&false));
+        assert!(equal[0] && equal[1], "the catalogue's quads and index do not read detections");
+        assert!(equal[2..].contains(&false));
     }
 
     #[test]
@@ -147,7 +147,7 @@ mod tests {
         frame.detections[3].snr = -1.0;
         let (theirs, ours) = (walked(&THEIRS, &frame).0, walked(&OURS, &frame).0);
         assert_eq!(ours.last().unwrap().told, "refused: number 3");
-        assert_eq!((theirs.len(), ours.len()), (4, 4));
-        assert_eq!(answers_equal(&theirs, &ours), [true; 4]);
+        assert_eq!((theirs.len(), ours.len()), (5, 5));
+        assert_eq!(answers_equal(&theirs, &ours), [true; 5]);
     }
 }

@@ -13,7 +13,8 @@ type NeighborQuads = fn(&[f64], &[f64], u32, f64, &mut [u8], &mut [f64], &mut u6
 
 pub struct Side {
     pub neighbor_quads: NeighborQuads,
-    pub find_matches: fn(Quads, Quads, &mut [u8], &mut u64) -> u32,
+    pub build_hash_index: fn(&[f64], &mut [u64]) -> u32,
+    pub find_matches_indexed: fn(Quads, Quads, &[u64], &mut [u8], &mut u64) -> u32,
     pub extract_pairs: fn(&[u8], Voters, &mut Pairs, &mut u64) -> u32,
     pub verify_pairs: fn(Rows, &mut u64) -> u32,
     pub ransac_fit: fn(Rows, Draw, &mut [u8], &mut Ran) -> u32,
@@ -28,7 +29,8 @@ pub struct Side {
 
 pub const OURS: Side = Side {
     neighbor_quads: ours::neighbor_quads,
-    find_matches: ours::matching::find_matches,
+    build_hash_index: ours::matching::build_hash_index,
+    find_matches_indexed: ours::matching::find_matches_indexed,
     extract_pairs: ours::matching::extract_pairs,
     verify_pairs: ours::matching::verify_pairs,
     ransac_fit: ours::run::ransac_fit,
@@ -44,7 +46,8 @@ pub const OURS: Side = Side {
 /// The untouched Rust, but for the SIP fit's powers and order, and for the record, which it has not.
 pub const THEIRS: Side = Side {
     neighbor_quads: theirs::quad::neighbor_quads,
-    find_matches: theirs::matching::find_matches,
+    build_hash_index: theirs::matching::build_hash_index,
+    find_matches_indexed: theirs::matching::find_matches_indexed,
     extract_pairs: theirs::matching::extract_pairs,
     verify_pairs: theirs::matching::verify_pairs,
     ransac_fit: theirs::run::ransac_fit_untouched,

@@ -110,6 +110,7 @@ impl<'a> Walk<'a> {
         let Frame { detections, stars, width, height, scale } = self.frame;
         let (xi, eta): (Vec<f64>, Vec<f64>) = stars.iter().map(|star| (star.xi, star.eta)).unzip();
         let catalogue = self.quads("quads of the catalogue", &xi, &eta)?;
+        let index = self.index(&catalogue)?;
         let (degrees, mut best, mut most) = (scale / 3600.0, Table::empty(), 0);
         for up in [-1.0, 1.0] {
             let x = detections.iter().map(|star| -(star.x - width / 2.0) * degrees);
@@ -117,7 +118,7 @@ impl<'a> Walk<'a> {
             let (x, y): (Vec<f64>, Vec<f64>) = (x.collect(), y.collect());
             let name = if up < 0.0 { "quads of the picture" } else { "quads of it, flipped" };
             let image = self.quads(name, &x, &y)?;
-            let matches = self.matches(&image, &catalogue)?;
+            let matches = self.matches(&image, &catalogue, &index)?;
             let pairs = self.pairs(&matches)?;
             let score = self.score(&pairs)?;
             if score > most {
@@ -154,13 +155,27 @@ impl<'a> Walk<'a> {
         Ok(QuadList { places, hashes })
     }
 
-    fn matches(&mut self, image: &QuadList, catalogue: &QuadList) -> Asked<Vec<u8>> {
+    /// It serves the picture both ways up.
+    fn index(&mut self, catalogue: &QuadList) -> Asked<Vec<u64>> {
+        self.step(
+            "index of the catalogue",
+            vec![WORD; 2 * MOST_QUADS],
+            |side, table| (side.build_hash_index)(&catalogue.hashes, table),
+            |table, answer| {
+                (format!("{} entries", catalogue.hashes.len() / 4), answer.numbers(table))
+            },
+        )
+    }
+
+    fn matches(&mut self, image: &QuadList, catalogue: &QuadList, index: &[u64]) -> Asked<Vec<u8>> {
         let [image, catalogue] =
             [image, catalogue].map(|list| Quads { places: &list.places, hashes: &list.hashes });
         let (mut matches, found) = self.step(
             "matches",
             (vec![BYTE; 8 * MOST_MATCHES], WORD),
-            |side, (matches, found)| (side.find_matches)(image, catalogue, matches, found),
+            |side, (matches, found)| {
+                (side.find_matches_indexed)(image, catalogue, index, matches, found)
+            },
             |(matches, found), answer| {
                 (format!("{found} matches"), answer.numbers(matches).number(*found))
             },

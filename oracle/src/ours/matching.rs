@@ -56,6 +56,38 @@ pub fn find_matches(image: Quads, catalogue: Quads, matches: &mut [u8], found: &
     })
 }
 
+pub fn build_hash_index(hashes: &[f64], table: &mut [u64]) -> u32 {
+    called(|| unsafe {
+        moorspindle_build_hash_index(hashes.as_ptr(), hashes.len(), table.as_mut_ptr(), table.len())
+    })
+}
+
+pub fn find_matches_indexed(
+    image: Quads,
+    catalogue: Quads,
+    table: &[u64],
+    matches: &mut [u8],
+    found: &mut u64,
+) -> u32 {
+    called(|| unsafe {
+        moorspindle_find_matches_indexed(
+            image.places.as_ptr(),
+            image.places.len(),
+            image.hashes.as_ptr(),
+            image.hashes.len(),
+            catalogue.places.as_ptr(),
+            catalogue.places.len(),
+            catalogue.hashes.as_ptr(),
+            catalogue.hashes.len(),
+            table.as_ptr(),
+            table.len(),
+            matches.as_mut_ptr(),
+            matches.len(),
+            found,
+        )
+    })
+}
+
 pub fn extract_pairs(matches: &[u8], voters: Voters, out: &mut Pairs, pairs: &mut u64) -> u32 {
     called(|| unsafe {
         moorspindle_extract_pairs(

@@ -1,11 +1,11 @@
 //! hash_index.rs, aggregate.rs and verify.rs behind Moorspindle's signatures.
 
-use celestial_catalog::query::{ConeSearchResult, Quad, QuadStar, StarRecord};
+use celestial_catalog::query::{self, ConeSearchResult, Quad, QuadStar, StarRecord};
 use celestial_solver::detect::DetectedStar;
 use celestial_solver::match_field::{self, QuadMatch, StarPair};
 
 use super::rows::{few_and_even, rows_of};
-use super::{COUNT, DEGENERATE, LENGTHS, PLACE, ROOM, VALUE};
+use super::{COUNT, DEGENERATE, INDEX, LENGTHS, PLACE, ROOM, VALUE};
 use super::{Tested, is_finite, is_limit, is_position, is_snr, number, put, refuse};
 use crate::case::bits;
 use crate::ours::matching::{Pairs, Quads, Rows, Voters};
@@ -16,18 +16,73 @@ const MOST: usize = 100; // rows, detections, ids, results
 
 pub fn find_matches(image: Quads, catalogue: Quads, matches: &mut [u8], found: &mut u64) -> u32 {
     number(|| {
-        let lists = [image.places.len(), image.hashes.len()];
-        let others = [catalogue.places.len(), catalogue.hashes.len()];
-        refuse(COUNT, lists.iter().chain(&others).any(|&length| length / 4 > MOST_QUADS))?;
-        refuse(LENGTHS, [lists, others].iter().any(|[a, b]| a != b || a % 4 != 0))?;
-        let all = match_field::find_matches(&quads_of(image), &quads_of(catalogue));
-        refuse(ROOM, matches.len() < 8 * all.len())?;
-        for (place, found) in matches.chunks_exact_mut(8).zip(&all) {
-            put(place, &eight(found));
-        }
-        *found = all.len() as u64;
+        test_quads(image, catalogue)?;
+        put_matches(image, catalogue, matches, found)
+    })
+}
+
+/// The Rust has no table: one is held to what `index_of` says of it.
+pub fn find_matches_indexed(
+    image: Quads,
+    catalogue: Quads,
+    table: &[u64],
+    matches: &mut [u8],
+    found: &mut u64,
+) -> u32 {
+    number(|| {
+        test_quads(image, catalogue)?;
+        refuse(INDEX, !table.starts_with(&index_of(catalogue.hashes)))?;
+        put_matches(image, catalogue, matches, found)
+    })
+}
+
+pub fn build_hash_index(hashes: &[f64], table: &mut [u64]) -> u32 {
+    number(|| {
+        refuse(COUNT, hashes.len() / 4 > MOST_QUADS)?;
+        refuse(LENGTHS, hashes.len() % 4 != 0)?;
+        let index = index_of(hashes);
+        refuse(ROOM, table.len() < index.len())?;
+        put(table, &index);
         Ok(())
     })
+}
+
+/// The turned keys of the quads, rising, and of equal ones that of the smaller place first; and
+/// then the places in that order.
+pub fn index_of(hashes: &[f64]) -> Vec<u64> {
+    let key = |hash: &[f64]| turned(query::discrete_hash_key(&[0, 1, 2, 3].map(|i| hash[i])));
+    let mut entries: Vec<(u64, u64)> = hashes.chunks_exact(4).map(key).zip(0..).collect();
+    entries.sort_unstable();
+    let keys = entries.iter().map(|entry| entry.0);
+    keys.chain(entries.iter().map(|entry| entry.1)).collect()
+}
+
+/// A key with its four lanes in the other order.
+fn turned(key: u64) -> u64 {
+    (0..4).fold(0, |turned, lane| turned << 16 | key >> (16 * lane) & 0xffff)
+}
+
+fn test_quads(image: Quads, catalogue: Quads) -> Tested<()> {
+    let lists = [image, catalogue].map(|quads| [quads.places.len(), quads.hashes.len()]);
+    refuse(COUNT, lists.concat().into_iter().any(|length| length / 4 > MOST_QUADS))?;
+    refuse(LENGTHS, lists.iter().any(|[a, b]| a != b || a % 4 != 0))
+}
+
+fn put_matches(image: Quads, catalogue: Quads, matches: &mut [u8], found: &mut u64) -> Tested<()> {
+    let all = all_matches(image, catalogue);
+    refuse(ROOM, matches.len() < 8 * all.len())?;
+    for (place, found) in matches.chunks_exact_mut(8).zip(&all) {
+        put(place, &eight(found));
+    }
+    *found = all.len() as u64;
+    Ok(())
+}
+
+/// The Rust's own way: an index, and the search by it.
+fn all_matches(image: Quads, catalogue: Quads) -> Vec<QuadMatch> {
+    let (image, catalogue) = (quads_of(image), quads_of(catalogue));
+    let index = match_field::build_hash_index(&catalogue);
+    match_field::find_matches(&image, &catalogue, &index)
 }
 
 pub fn quads_of(quads: Quads) -> Vec<Quad> {

@@ -1,5 +1,5 @@
 //! The Rust behind Moorspindle's signatures. The Rust refuses nothing here, so the refusals are
-//! written out, in the order of their numbers; past them the answer is the Rust's own, put into
+//! written out, in the order of their numbers, 11 after 4; past them the answer is the Rust's own, put into
 //! what was lent.
 
 pub mod cd;
@@ -22,6 +22,7 @@ const ROWS: u32 = 6;
 const ROOM: u32 = 7;
 const DEGENERATE: u32 = 8;
 const FEW: u32 = 9;
+const INDEX: u32 = 11;
 
 fn refuse(number: u32, when: bool) -> Tested<()> {
     if when { Err(number) } else { Ok(()) }

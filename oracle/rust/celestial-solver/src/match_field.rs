@@ -1,5 +1,7 @@
 //! hash_index.rs, aggregate.rs and verify.rs.
 
+use std::collections::HashMap;
+
 use celestial_catalog::query::{ConeSearchResult, Quad, QuadStar};
 
 use crate::detect::DetectedStar;
@@ -23,9 +25,15 @@ pub struct StarPair {
     pub snr: f64,
 }
 
-pub fn find_matches(image: &[Quad], catalogue: &[Quad]) -> Vec<QuadMatch> {
-    let index = hash_index::build_hash_index(catalogue);
-    hash_index::find_matches(image, catalogue, &index)
+/// The Rust's index: the places of each key.
+pub type Index = HashMap<u64, Vec<usize>>;
+
+pub fn build_hash_index(catalogue: &[Quad]) -> Index {
+    hash_index::build_hash_index(catalogue)
+}
+
+pub fn find_matches(image: &[Quad], catalogue: &[Quad], index: &Index) -> Vec<QuadMatch> {
+    hash_index::find_matches(image, catalogue, index)
 }
 
 pub fn extract_pairs(
