@@ -10,7 +10,7 @@ ghost use Rattle.hash_index.specs.Matches.{whole, inputAnswer, matchesOf
 ghost use Rattle.hash_index.specs.Steps.{Ready, nearTo, Counted, nearMatches, Taken};
 
 // The most quads in a list.
-const MOST_QUADS: usize = 12000;
+pub const MOST_QUADS: usize = 12000;
 
 // The answer of find_matches: how many matches were written.
 pub enum Matches {

@@ -1,7 +1,8 @@
 // The catalogue quads near to an image quad, found in the table of their keys.
+use index_table::chosen;
 use quad_key::Hash;
 ghost use mathlib.Core.Path.{_≡_};
-ghost use mathlib.Core.Bool.{cond, _&&_};
+ghost use mathlib.Core.Bool.{_&&_};
 ghost use mathlib.Core.List.{_++_};
 ghost use Prim.Native.Nat.{ℕ, _+_, _-_, _*_, _^_, _≤_, _<_};
 ghost use lib.Dec.{ltb, leb};
@@ -14,13 +15,6 @@ ghost use Rattle.index_near.specs.Near.{threeHits, upperOf, Nines, oneHi
 
 // A range of more entries is not walked: nine searches cost what so many steps cost.
 const CROWD: usize = 64;
-
-// One of two numbers.
-fn chosen(first: bool, a: usize, b: usize) -> usize
-    ensures { λ r. ⌜ r ≡ cond first a b ⌝ }
-{
-    if first { a } else { b }
-}
 
 // Where the keys from `key` on start, which is from lo to hi. The turns have no branch but the loop's own.
 fn lower(table: &[u64], m: usize, lo: usize, hi: usize, key: u64) -> usize

@@ -1,6 +1,6 @@
 // The index of a catalogue list: what its table is, and whether a list is it.
 ghost use mathlib.Core.Path.{_≡_};
-ghost use mathlib.Core.Bool.{true, false};
+ghost use mathlib.Core.Bool.{true, false, cond};
 ghost use Prim.Native.Nat.{ℕ, _+_, _*_, _<_, _≤_};
 ghost use lib.ListN.{length};
 ghost use Rattle.index_table.specs.Table.{turned, quadKey, belongs};
@@ -23,6 +23,13 @@ pub fn key_at(hashes: &[f64], j: usize) -> u64
     ensures { λ r. ⌜ r ≡ quadKey (now (hashes .entry)) j ⌝ }
 {
     turn(quad_key::discrete_hash_key(hash_lanes::hash_at(hashes, j)))
+}
+
+// One of two places, so that a loop that goes to the one or the other has no branch there.
+pub fn chosen(first: bool, a: usize, b: usize) -> usize
+    ensures { λ r. ⌜ r ≡ cond first a b ⌝ }
+{
+    if first { a } else { b }
 }
 
 // Whether entry k is that of one of n quads.

@@ -5,17 +5,16 @@ use mathlib.Core.List.{List}
 use Prim.Native.Nat.{ℕ, _/_}
 use lib.Ieee.{Float}
 use lib.ListN.{length}
-use Rattle.answer.specs.Answers.{answerNumber, lentAfter, numberAfter}
+use Rattle.answer.specs.Answers.{answerNumber}
 use Rattle.answer.specs.declared.Answer.{Answer}
 use Rattle.answer.specs.declared.Answer.the-variants as answer
 use Rattle.answer.proofs.Numbers.{not-done}
-use Rattle.hash_index.specs.Matches.{matchesOf}
 use Rattle.index_table.specs.Table.{belongs}
 use Rattle.index_build.specs.Build.{buildAnswer}
 use Rattle.index_build.proofs.Belongs.{built-belongs}
 use Rattle.index_find.proofs.Same.{same-answer}
-use Rattle.matching_face.specs.Face.{matchesDone, matchesFace, matchesCount}
-use Rattle.matching_face.specs.Index.{Lent, IndexBuilt, MatchesFound, indexedFace}
+use Rattle.matching_face.specs.Face.{matchesDone, MatchesFound}
+use Rattle.matching_face.specs.Index.{IndexBuilt, IndexedFound}
 
 is-done : (a : Answer) → answerNumber a ≡ 0 → a ≡ answer.Done
 is-done answer.Done e = refl
@@ -25,16 +24,10 @@ is-done (answer.Refused why) e = absurd (not-done why e)
 pub built-own : (hashes : List Float) (old new : List ℕ) → IndexBuilt hashes old 0 new → belongs new hashes (length hashes / 4) ≡ true
 built-own hashes old new b =
     let d : buildAnswer (length hashes) (length old) ≡ answer.Done = is-done _ (sym (b .number)) in
-    built-belongs hashes old answer.Done new (record { answer = sym d; table = rw d at (b .written) }) refl
+    built-belongs hashes old answer.Done new (record { answer = sym d; table = rw d at (b .table) }) refl
 
--- the promises of `find_matches`, in its words
-pub record Plain (places : List ℕ) (hashes : List Float) (catalogue : List ℕ) (others : List Float) (old : List ℕ) (before r : ℕ) (new : List ℕ) (found : ℕ) : Type 0 where
-  pub number : r ≡ answerNumber (matchesFace places hashes catalogue others (length old))
-  pub matches : new ≡ lentAfter (matchesFace places hashes catalogue others (length old)) (matchesOf places hashes catalogue others) old
-  pub count : found ≡ numberAfter (matchesFace places hashes catalogue others (length old)) (matchesCount places hashes catalogue others) before
-
+-- such a search keeps the promise of the plain one
 pub as-plain : (places : List ℕ) (hashes : List Float) (catalogue : List ℕ) (others : List Float) {words table old : List ℕ} {before r : ℕ} {new : List ℕ} {found : ℕ}
-    → IndexBuilt others words 0 table → MatchesFound places hashes catalogue others table old before r new found → Plain places hashes catalogue others old before r new found
+    → IndexBuilt others words 0 table → IndexedFound places hashes catalogue others table old before r new found → MatchesFound places hashes catalogue others old before r new found
 as-plain places hashes catalogue others {words} {table} {old} b f =
-    let e = ap matchesDone (same-answer places hashes catalogue others table (length old) (built-own others words table b)) in
-    record { number = f .matches .number ∙ ap answerNumber e; matches = rw e at (f .matches .written); count = rw e at (f .count) }
+    rw (ap matchesDone (same-answer places hashes catalogue others table (length old) (built-own others words table b))) at f

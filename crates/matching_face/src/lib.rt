@@ -4,10 +4,9 @@ use hash_index::Matches;
 ghost use mathlib.Core.Path.{_≡_};
 ghost use lib.ListN.{length};
 ghost use Rattle.answer.specs.Answers.{answerNumber, lentAfter, numberAfter};
-ghost use Rattle.hash_index.specs.Matches.{matchesOf};
 ghost use Rattle.aggregate.specs.Extract.{given, room, pairXs, pairYs, pairRas, pairDecs, pairVotes, pairSnrs};
-ghost use Rattle.matching_face.specs.Face.{matchesFace, matchesCount, pairsFace, pairsCount};
-ghost use Rattle.matching_face.specs.Index.{IndexBuilt, MatchesFound};
+ghost use Rattle.matching_face.specs.Face.{MatchesFound, pairsFace, pairsCount};
+ghost use Rattle.matching_face.specs.Index.{IndexBuilt, IndexedFound};
 
 // The matches of the image quads (places, hashes) with the catalogue quads (catalogue, others), eight
 // places each, and how many they are.
@@ -19,16 +18,8 @@ pub fn find_matches(
     matches: &mut [u8],
     found: &mut u64,
 ) -> u32
-    ensures number { λ r. ⌜ r ≡ answerNumber
-        (matchesFace (now (places .entry)) (now (hashes .entry)) (now (catalogue .entry)) (now (others .entry)) (length (now (matches .entry)))) ⌝ }
-    ensures matches { λ r. ⌜ now (matches .exit) ≡ lentAfter
-        (matchesFace (now (places .entry)) (now (hashes .entry)) (now (catalogue .entry)) (now (others .entry)) (length (now (matches .entry))))
-        (matchesOf (now (places .entry)) (now (hashes .entry)) (now (catalogue .entry)) (now (others .entry)))
-        (now (matches .entry)) ⌝ }
-    ensures found { λ r. ⌜ now (found .exit) ≡ numberAfter
-        (matchesFace (now (places .entry)) (now (hashes .entry)) (now (catalogue .entry)) (now (others .entry)) (length (now (matches .entry))))
-        (matchesCount (now (places .entry)) (now (hashes .entry)) (now (catalogue .entry)) (now (others .entry)))
-        (now (found .entry)) ⌝ }
+    ensures { λ r. ⌜ MatchesFound (now (places .entry)) (now (hashes .entry)) (now (catalogue .entry)) (now (others .entry))
+        (now (matches .entry)) (now (found .entry)) r (now (matches .exit)) (now (found .exit)) ⌝ }
 {
     match hash_index::find_matches(places, hashes, catalogue, others, matches) {
         Matches::Refused(why) => why.number(),
@@ -56,7 +47,7 @@ pub fn find_matches_indexed(
     matches: &mut [u8],
     found: &mut u64,
 ) -> u32
-    ensures { λ r. ⌜ MatchesFound (now (places .entry)) (now (hashes .entry)) (now (catalogue .entry)) (now (others .entry))
+    ensures { λ r. ⌜ IndexedFound (now (places .entry)) (now (hashes .entry)) (now (catalogue .entry)) (now (others .entry))
         (now (table .entry)) (now (matches .entry)) (now (found .entry)) r (now (matches .exit)) (now (found .exit)) ⌝ }
 {
     match index_find::find_matches_indexed(places, hashes, catalogue, others, table, matches) {

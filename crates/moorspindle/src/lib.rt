@@ -13,10 +13,9 @@ ghost use Rattle.rows.specs.Rows.{rows};
 ghost use Rattle.quad.specs.Quads.{quadsAnswer, quadPlaces, quadHashes};
 ghost use Rattle.spine_face.specs.Face.{spineFace, spineWritten, star, orientFace, orientWritten, normalFace, hashWritten, placesWritten};
 ghost use Rattle.quad_face.specs.Face.{startFace, startWritten, stepPlaces, stepBytes, stepGiven, stepFrom, nextFace, quadsCount, quadsFace, hashFrom};
-ghost use Rattle.hash_index.specs.Matches.{matchesOf};
 ghost use Rattle.aggregate.specs.Extract.{given, room, pairXs, pairYs, pairRas, pairDecs, pairVotes, pairSnrs};
-ghost use Rattle.matching_face.specs.Face.{matchesFace, matchesCount, pairsFace, pairsCount};
-ghost use Rattle.matching_face.specs.Index.{IndexBuilt, MatchesFound};
+ghost use Rattle.matching_face.specs.Face.{MatchesFound, pairsFace, pairsCount};
+ghost use Rattle.matching_face.specs.Index.{IndexBuilt, IndexedFound};
 ghost use Rattle.verify_order.specs.Sorted.{sortedRows};
 ghost use Rattle.verify.specs.Score.{NoneBetter};
 ghost use Rattle.verify_face.specs.Face.{affineFace, affineWritten, inliersFace, inliersCount, scoreFace, scoreCount};
@@ -229,16 +228,8 @@ pub extern "C" fn moorspindle_find_matches(
     matches: &mut [u8],
     found: &mut u64,
 ) -> u32
-    ensures number { λ r. ⌜ r ≡ answerNumber
-        (matchesFace (now (places .entry)) (now (hashes .entry)) (now (catalogue .entry)) (now (others .entry)) (length (now (matches .entry)))) ⌝ }
-    ensures matches { λ r. ⌜ now (matches .exit) ≡ lentAfter
-        (matchesFace (now (places .entry)) (now (hashes .entry)) (now (catalogue .entry)) (now (others .entry)) (length (now (matches .entry))))
-        (matchesOf (now (places .entry)) (now (hashes .entry)) (now (catalogue .entry)) (now (others .entry)))
-        (now (matches .entry)) ⌝ }
-    ensures found { λ r. ⌜ now (found .exit) ≡ numberAfter
-        (matchesFace (now (places .entry)) (now (hashes .entry)) (now (catalogue .entry)) (now (others .entry)) (length (now (matches .entry))))
-        (matchesCount (now (places .entry)) (now (hashes .entry)) (now (catalogue .entry)) (now (others .entry)))
-        (now (found .entry)) ⌝ }
+    ensures { λ r. ⌜ MatchesFound (now (places .entry)) (now (hashes .entry)) (now (catalogue .entry)) (now (others .entry))
+        (now (matches .entry)) (now (found .entry)) r (now (matches .exit)) (now (found .exit)) ⌝ }
 {
     matching_face::find_matches(places, hashes, catalogue, others, matches, found)
 }
@@ -260,7 +251,7 @@ pub extern "C" fn moorspindle_find_matches_indexed(
     matches: &mut [u8],
     found: &mut u64,
 ) -> u32
-    ensures { λ r. ⌜ MatchesFound (now (places .entry)) (now (hashes .entry)) (now (catalogue .entry)) (now (others .entry))
+    ensures { λ r. ⌜ IndexedFound (now (places .entry)) (now (hashes .entry)) (now (catalogue .entry)) (now (others .entry))
         (now (table .entry)) (now (matches .entry)) (now (found .entry)) r (now (matches .exit)) (now (found .exit)) ⌝ }
 {
     matching_face::find_matches_indexed(places, hashes, catalogue, others, table, matches, found)

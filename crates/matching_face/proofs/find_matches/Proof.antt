@@ -1,5 +1,5 @@
 -- `matching_face::find_matches` meets its contract: the inner call decides, and the count is handed out where it is done. Assumes nothing.
-use mathlib.Core.Path.{refl, sym, _∙_}
+use mathlib.Core.Path.{sym, _∙_}
 use Rattle.matching_face.proofs.Counts.{matches-counted}
 use borrow.Author.Needs.{needs}
 use Rattle.matching_face.proofs.find_matches.Statement.{statement}
@@ -24,7 +24,8 @@ returns : tie.Need-returns
 returns c =
     let tried = c .before .before .before .before .before .before in
     let why = c .before .before .why .given .1 in
-    rw (← tried .find-matches .ensures .0, why) (c .number .ensures, (rw why at (tried .find-matches .ensures .1), refl))
+    let told = tried .find-matches .ensures .0 in
+    record { number = rw (← told, why) (c .number .ensures); matches = rw (← told, why) (rw why at (tried .find-matches .ensures .1)); count = rw (← told, why) }
 
 same-length-2 : tie.Need-same-length-2
 same-length-2 c = search needs
@@ -34,7 +35,8 @@ returns-2 c =
     let tried = c .before .before .before .before .before in
     let count = c .before .count .given .1 in
     let all = matches-counted _ _ _ _ _ _ (sym (tried .find-matches .ensures .0) ∙ count) in
-    rw (← tried .find-matches .ensures .0, count) (refl, (rw count at (tried .find-matches .ensures .1), all))
+    let told = tried .find-matches .ensures .0 in
+    record { number = rw (← told, count); matches = rw (← told, count) (rw count at (tried .find-matches .ensures .1)); count = rw (← told, count) all }
 
 pub find-matches-spec : {M : Type 1} → statement M
 find-matches-spec =
