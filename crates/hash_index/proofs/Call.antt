@@ -7,7 +7,6 @@ use native.Mathlib.Nat.{zero-add}
 use native.Mathlib.Omega.{arith}
 use borrow.Author.Tests.{lt-ltb, le-ltb, ltb-true, ltb-false, eqb-true, not-false}
 use lib.Dec.{ltb, eqb}
-use lib.Ieee.{Float}
 use lib.ListN.{length, getD, set}
 use lib.Seq.{sets, sets-eq, getD-set-same, getD-set-other}
 use Rattle.answer.specs.declared.Refusal.the-variants as refusal
@@ -15,7 +14,7 @@ use Rattle.answer.specs.declared.Answer.the-variants as answer
 use Rattle.answer.proofs.Passed.{passed, neither}
 use Rattle.hash_index.specs.declared.Matches.the-variants as matches
 use Rattle.hash_index.specs.Matches.{tooMany, whole, inputAnswer, roomAnswer, lentAfterMatches}
-use Rattle.hash_index.specs.Steps.{nearTo, Counted, Taken}
+use Rattle.hash_index.specs.Steps.{Counted, Taken}
 
 both-true : (a b : Bool) → (a && b) ≡ true → (a ≡ true) × (b ≡ true)
 both-true true b h = (refl, h)
@@ -42,18 +41,18 @@ taken places hashes catalogue others h =
     }
 
 -- the count of one image quad more is stored
-pub counted-none : (hashes : List Float) (lanes : List ℕ) (m : ℕ) (counts : List ℕ) → Counted hashes lanes m 0 counts
-counted-none hashes lanes m counts k h = absurd (omega arith)
+module _ (near : ℕ → List ℕ) where
+  pub counted-none : (counts : List ℕ) → Counted near 0 counts
+  counted-none counts k h = absurd (omega arith)
 
-pub counted-more : (hashes : List Float) (lanes : List ℕ) (m i : ℕ) (counts : List ℕ) (near : ℕ) → i < length counts → near ≡ length (nearTo hashes lanes m i)
-    → Counted hashes lanes m i counts → Counted hashes lanes m (i + 1) (set counts i near)
-counted-more hashes lanes m i counts near h e l k s = go (ltb k i) (ltb-true k i) (ltb-false k i)
-  where
-    go : (t : Bool) → (t ≡ true → k < i) → (t ≡ false → i ≤ k) → getD (set counts i near) k 0 ≡ length (nearTo hashes lanes m k)
-    go true p q = let p' = p refl in getD-set-other counts i k near 0 (λ r. omega arith) ∙ l k p'
-    go false p q =
-        let q' = q refl in
-        let d : k ≡ i = omega arith in rw d (getD-set-same counts i near 0 h ∙ e)
+  pub counted-more : (i : ℕ) (counts : List ℕ) (n : ℕ) → i < length counts → n ≡ length (near i) → Counted near i counts → Counted near (i + 1) (set counts i n)
+  counted-more i counts n h e l k s = go (ltb k i) (ltb-true k i) (ltb-false k i)
+    where
+      go : (t : Bool) → (t ≡ true → k < i) → (t ≡ false → i ≤ k) → getD (set counts i n) k 0 ≡ length (near k)
+      go true p q = let p' = p refl in getD-set-other counts i k n 0 (λ r. omega arith) ∙ l k p'
+      go false p q =
+          let q' = q refl in
+          let d : k ≡ i = omega arith in rw d (getD-set-same counts i n 0 h ∙ e)
 
 -- no room for eight places each
 pub no-room : (total n room : ℕ) → n ≡ 8 * total → room < 8 * total → matches.Refused refusal.Room ≡ roomAnswer n room

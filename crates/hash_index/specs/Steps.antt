@@ -19,9 +19,9 @@ pub record Ready (hashes : List Float) (n : ℕ) (lanes : List ℕ) (m : ℕ) : 
 abbrev pub nearTo : List Float → List ℕ → ℕ → ℕ → List ℕ
 nearTo hashes lanes m i = nearFrom lanes (baseOf (hashAt hashes i)) 0 m
 
--- how many there are stands at the place of each of n image quads
-abbrev pub Counted : List Float → List ℕ → ℕ → ℕ → List ℕ → Type 0
-Counted hashes lanes m n counts = (i : ℕ) → i < n → getD counts i 0 ≡ length (nearTo hashes lanes m i)
+-- how many near ones each of n image quads has stands at its place
+abbrev pub Counted : (ℕ → List ℕ) → ℕ → List ℕ → Type 0
+Counted near n counts = (i : ℕ) → i < n → getD counts i 0 ≡ length (near i)
 
 -- the matches of image quad i with them
 abbrev pub nearMatches : List ℕ → List Float → List ℕ → List ℕ → ℕ → ℕ → List ℕ

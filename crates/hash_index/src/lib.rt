@@ -67,7 +67,7 @@ pub fn check_input(places: &[u8], hashes: &[f64], catalogue: &[u8], others: &[f6
 fn count_all(hashes: &[f64], n: usize, lanes: &[u16], m: usize, counts: &mut [u16]) -> usize
     requires { ⌜ Ready (now hashes) n (now lanes) m ⌝ ∗ ⌜ length (now counts) ≡ 12000 ⌝ }
     ensures { λ r. ⌜ (r ≡ length (over (nearTo (now (hashes .entry)) (now (lanes .entry)) m) 0 n))
-        × Counted (now (hashes .entry)) (now (lanes .entry)) m n (now (counts .exit)) ⌝ }
+        × Counted (nearTo (now (hashes .entry)) (now (lanes .entry)) m) n (now (counts .exit)) ⌝ }
 {
     let mut total = 0usize;
     for i in 0..n {
@@ -116,7 +116,7 @@ fn write_all(
     matches: &mut [u8],
 )
     requires { ⌜ Ready (now hashes) n (now lanes) m ⌝ ∗ ⌜ length (now counts) ≡ 12000 ⌝
-        ∗ ⌜ Counted (now hashes) (now lanes) m n (now counts) ⌝ ∗ ⌜ length (now found) ≡ 12000 ⌝
+        ∗ ⌜ Counted (nearTo (now hashes) (now lanes) m) n (now counts) ⌝ ∗ ⌜ length (now found) ≡ 12000 ⌝
         ∗ ⌜ length (over (nearMatches (now places) (now hashes) (now catalogue) (now lanes) m) 0 n) ≤ length (now matches) ⌝ }
     ensures { λ r. ⌜ now (matches .exit) ≡ sets (now (matches .entry)) 0
         (over (nearMatches (now (places .entry)) (now (hashes .entry)) (now (catalogue .entry)) (now (lanes .entry)) m) 0 n) ⌝ }

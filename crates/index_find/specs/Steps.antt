@@ -2,10 +2,10 @@
 use mathlib.Core.Path.{_≡_}
 use mathlib.Core.Bool.{cond}
 use mathlib.Core.List.{List}
-use Prim.Native.Nat.{ℕ, _*_, _≤_, _<_}
+use Prim.Native.Nat.{ℕ, _*_, _≤_}
 use lib.Dec.{ltb}
 use lib.Ieee.{Float}
-use lib.ListN.{length, getD, take}
+use lib.ListN.{length, take}
 use Rattle.hash_near.specs.Over.{each}
 use Rattle.hash_write.specs.Write.{eight}
 use Rattle.index_near.specs.Near.{Ready, nearHits}
@@ -16,10 +16,6 @@ pub record Searched (hashes : List Float) (n : ℕ) (table : List ℕ) (m : ℕ)
   pub few : n ≤ 12000
   pub ready : Ready table m
   pub near : (i : ℕ) → length (nearHits table m hashes i) ≤ m
-
--- how many near places there are stands at the place of each of n image quads
-abbrev pub Counted : List Float → List ℕ → ℕ → ℕ → List ℕ → Type 0
-Counted hashes table m n counts = (i : ℕ) → i < n → getD counts i 0 ≡ length (nearHits table m hashes i)
 
 -- where the next near places go after so many: no further than 48,000 are kept
 abbrev pub heldOf : ℕ → ℕ

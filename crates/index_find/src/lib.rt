@@ -9,11 +9,11 @@ ghost use lib.Seq.{sets};
 ghost use Rattle.hash_near.specs.Over.{over, each};
 ghost use Rattle.hash_write.specs.Write.{eight};
 ghost use Rattle.hash_index.specs.Matches.{matchesOf, roomAnswer};
-ghost use Rattle.hash_index.specs.Steps.{Taken};
+ghost use Rattle.hash_index.specs.Steps.{Counted, Taken};
 ghost use Rattle.index_table.specs.Table.{tableOf};
 ghost use Rattle.index_near.specs.Near.{nearHits};
 ghost use Rattle.index_find.specs.Indexed.{tabled, Ends, Found};
-ghost use Rattle.index_find.specs.Steps.{Searched, Counted, heldOf, Held, imageMatches};
+ghost use Rattle.index_find.specs.Steps.{Searched, heldOf, Held, imageMatches};
 
 // So many near places are kept from the count for the writing. Those past them are looked for again.
 const KEPT: usize = 48000;
@@ -36,7 +36,7 @@ fn count_all(
 ) -> usize
     requires { ⌜ Searched (now hashes) n (now table) m ⌝ ∗ ⌜ length (now kept) ≡ 60000 ⌝ ∗ ⌜ length (now counts) ≡ 12000 ⌝ }
     ensures total { λ r. ⌜ r ≡ length (over (nearHits (now (table .entry)) m (now (hashes .entry))) 0 n) ⌝ }
-    ensures counts { λ _. ⌜ Counted (now (hashes .entry)) (now (table .entry)) m n (now (counts .exit)) ⌝ }
+    ensures counts { λ _. ⌜ Counted (nearHits (now (table .entry)) m (now (hashes .entry))) n (now (counts .exit)) ⌝ }
     ensures kept { λ _. ⌜ Held (over (nearHits (now (table .entry)) m (now (hashes .entry))) 0 n) (now (kept .exit)) ⌝ }
 {
     let mut total = 0usize;
@@ -115,7 +115,7 @@ fn write_all(
     matches: &mut [u8],
 )
     requires { ⌜ Searched (now hashes) n (now table) m ⌝ ∗ ⌜ length (now kept) ≡ 60000 ⌝ ∗ ⌜ length (now counts) ≡ 12000 ⌝
-        ∗ ⌜ Counted (now hashes) (now table) m n (now counts) ⌝ }
+        ∗ ⌜ Counted (nearHits (now table) m (now hashes)) n (now counts) ⌝ }
     requires { ⌜ Held (over (nearHits (now table) m (now hashes)) 0 n) (now kept) ⌝
         ∗ ⌜ 8 * length (over (nearHits (now table) m (now hashes)) 0 n) ≤ length (now matches) ⌝ }
     ensures { λ _. ⌜ now (matches .exit) ≡ sets (now (matches .entry)) 0

@@ -16,13 +16,14 @@ use Rattle.hash_index.proofs.count_all.Statement.{statement}
 use Rattle.hash_index.proofs.count_all.Tie as tie
 
 abbrev Inv-loop : tie.InvT-loop
-Inv-loop hashes n lanes m counts₀ total₀ i₀ counts total i = (i ≤ n) × (length counts ≡ 12000) × (total ≤ 12000 * i) × (total + length (over (nearTo hashes lanes m) i (n - i)) ≡ length (over (nearTo hashes lanes m) 0 n)) × Counted hashes lanes m i counts
+Inv-loop hashes n lanes m counts₀ total₀ i₀ counts total i = (i ≤ n) × (length counts ≡ 12000) × (total ≤ 12000 * i) × (total + length (over (nearTo hashes lanes m) i (n - i)) ≡ length (over (nearTo hashes lanes m) 0 n)) × Counted (nearTo hashes lanes m) i counts
 
 abbrev μ-loop : tie.MeasureT-loop
 μ-loop hashes n lanes m counts₀ total₀ i₀ counts total i = n - i
 
 loop-holds : tie.Need-loop-holds Inv-loop μ-loop
-loop-holds c = (omega arith, omega arith, omega arith, rw sub-zero (omega arith), counted-none (now (c .before .before .before .args .hashes)) (now (c .before .before .before .args .lanes)) (c .before .before .before .args .m) (now (c .before .before .before .args .counts)))
+loop-holds c = let a = c .before .before .before .args in
+    (omega arith, omega arith, omega arith, rw sub-zero (omega arith), counted-none (nearTo (now (a .hashes)) (now (a .lanes)) (a .m)) (now (a .counts)))
 
 base-at-requires : tie.Need-base-at-requires Inv-loop μ-loop
 base-at-requires c κs = omega (arith, c .before .before .before .before .before .pre)
@@ -66,7 +67,7 @@ loop-again c =
       length-set (l .counts) (l .i) (c .count-near .result) ∙ l .inv .1,
       omega (arith, most c, l .inv .2),
       omega (arith, counted c, l .inv .3),
-      counted-more (now (a .hashes)) (now (a .lanes)) (a .m) (l .i) (l .counts) (c .count-near .result) (omega (arith, l .inv .1, c .before .before .before .before .before .before .before .pre)) (counted c) (l .inv .4),
+      counted-more (nearTo (now (a .hashes)) (now (a .lanes)) (a .m)) (l .i) (l .counts) (c .count-near .result) (omega (arith, l .inv .1, c .before .before .before .before .before .before .before .pre)) (counted c) (l .inv .4),
     )
 
 same-length : tie.Need-same-length Inv-loop μ-loop

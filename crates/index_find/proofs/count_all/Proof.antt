@@ -1,8 +1,10 @@
 -- `index_find::count_all` meets its contract: what is found so far is counted, and kept as far as it goes. Assumes nothing.
 use borrow.Author.Needs.{needs}
-use Rattle.index_find.proofs.Call.{total-most, counted-none, counted-more}
+use Rattle.index_find.proofs.Call.{total-most}
+use Rattle.hash_index.proofs.Call.{counted-none, counted-more}
+use Rattle.hash_index.specs.Steps.{Counted}
 use Rattle.index_find.proofs.Kept.{held-none, held-most, held-more, over-next}
-use Rattle.index_find.specs.Steps.{Counted, Held, heldOf}
+use Rattle.index_find.specs.Steps.{Held, heldOf}
 use Rattle.index_near.specs.Near.{nearHits}
 use Rattle.hash_near.specs.Over.{over}
 use denote.Ref.{now}
@@ -14,13 +16,13 @@ use Rattle.index_find.proofs.count_all.Statement.{statement}
 use Rattle.index_find.proofs.count_all.Tie as tie
 
 abbrev Inv-loop : tie.InvT-loop
-Inv-loop hashes n table m kept₀ counts₀ total₀ i₀ kept counts total i = (i ≤ n) × (length kept ≡ 60000) × (length counts ≡ 12000) × (total ≡ length (over (nearHits table m hashes) 0 i)) × Counted hashes table m i counts × Held (over (nearHits table m hashes) 0 i) kept
+Inv-loop hashes n table m kept₀ counts₀ total₀ i₀ kept counts total i = (i ≤ n) × (length kept ≡ 60000) × (length counts ≡ 12000) × (total ≡ length (over (nearHits table m hashes) 0 i)) × Counted (nearHits table m hashes) i counts × Held (over (nearHits table m hashes) 0 i) kept
 
 abbrev μ-loop : tie.MeasureT-loop
 μ-loop hashes n table m kept₀ counts₀ total₀ i₀ kept counts total i = n - i
 
 loop-holds : tie.Need-loop-holds Inv-loop μ-loop
-loop-holds c = let a = c .before .before .before .before .args in (omega arith, c .before .before .before .before .pre .1 .0, c .before .before .before .before .pre .1 .1, refl, counted-none (now (a .hashes)) (now (a .table)) (a .m) (now (a .counts)), held-none (now (a .kept)))
+loop-holds c = let a = c .before .before .before .before .args in (omega arith, c .before .before .before .before .pre .1 .0, c .before .before .before .before .pre .1 .1, refl, counted-none (nearHits (now (a .table)) (a .m) (now (a .hashes))) (now (a .counts)), held-none (now (a .kept)))
 
 held-requires : tie.Need-held-requires Inv-loop μ-loop
 held-requires c κs = search needs
@@ -61,7 +63,7 @@ loop-again c = let a = c .before .before .before .before .before .before .before
     let f = nearHits (now (a .table)) (a .m) (now (a .hashes)) in
     let v = c .before .before .gather-near in
     let e = v .ensures .0 in
-    (omega arith, v .kept .1 .1 .1 .1 .0 ∙ l .inv .1, length-set (l .counts) (l .i) _ ∙ l .inv .2, omega (arith, l .inv .3, ap length (over-next f (l .i)), length-append (over f 0 (l .i)) (f (l .i))), counted-more (now (a .hashes)) (now (a .table)) (a .m) (l .i) (l .counts) _ (omega (arith, l .inv .2, pre .0 .few)) (omega arith) (l .inv .4), rw (over-next f (l .i)) (held-more (over f 0 (l .i)) (f (l .i)) (l .kept) _ (c .before .before .before .before .held .result) (v .result) (omega (arith, l .inv .1)) (l .inv .5) (c .before .before .before .before .held .ensures ∙ ap heldOf (l .inv .3)) (v .ensures)))
+    (omega arith, v .kept .1 .1 .1 .1 .0 ∙ l .inv .1, length-set (l .counts) (l .i) _ ∙ l .inv .2, omega (arith, l .inv .3, ap length (over-next f (l .i)), length-append (over f 0 (l .i)) (f (l .i))), counted-more f (l .i) (l .counts) _ (omega (arith, l .inv .2, pre .0 .few)) (omega arith) (l .inv .4), rw (over-next f (l .i)) (held-more (over f 0 (l .i)) (f (l .i)) (l .kept) _ (c .before .before .before .before .held .result) (v .result) (omega (arith, l .inv .1)) (l .inv .5) (c .before .before .before .before .held .ensures ∙ ap heldOf (l .inv .3)) (v .ensures)))
 
 same-length : tie.Need-same-length Inv-loop μ-loop
 same-length c = c .before .loop .inv .1 ∙ sym (c .before .before .before .before .before .before .pre .1 .0)
