@@ -31,17 +31,17 @@ pub record Halving (table : List ℕ) (m key base len : ℕ) : Type 0 where
 pub halving-start : {table : List ℕ} {m lo hi key : ℕ} → Between table m lo hi key → Halving table m key lo (hi - lo)
 halving-start b = record { within = omega (arith, b .order, b .within); below = b .below; above = λ k p h. b .above k (omega (arith, b .order)) h }
 
-pub halving-step : {table : List ℕ} {m key base len : ℕ} → Ready table m → Halving table m key base len → 0 < len → (half : ℕ) → half ≡ len / 2 → (t : Bool) → ltb (getD table (base + half) 0) key ≡ t
-    → Halving table m key (cond t (base + half + 1) base) (cond t (len - half - 1) half)
+pub halving-step : {table : List ℕ} {m key base len : ℕ} → Ready table m → Halving table m key base len → 0 < len → (half : ℕ) → half ≡ len - len / 2 → (t : Bool) → ltb (getD table (base + half - 1) 0) key ≡ t
+    → Halving table m key (cond t (base + half) base) (len / 2)
 halving-step {table} {m} {key} {base} {len} r h s half d true e = record {
   within = omega (arith, h .within);
-  below = λ k l. omega (arith, ltb-true (getD table (base + half) 0) key e, r .sorted k (base + half) (omega arith) (omega (arith, h .within)));
+  below = λ k l. omega (arith, ltb-true (getD table (base + half - 1) 0) key e, r .sorted k (base + half - 1) (omega arith) (omega (arith, h .within)));
   above = λ k p l. h .above k (omega arith) l;
 }
 halving-step {table} {m} {key} {base} {len} r h s half d false e = record {
   within = omega (arith, h .within);
   below = h .below;
-  above = λ k p l. omega (arith, ltb-false (getD table (base + half) 0) key e, r .sorted (base + half) k p l);
+  above = λ k p l. omega (arith, ltb-false (getD table (base + half - 1) 0) key e, r .sorted (base + half - 1) k (omega arith) l);
 }
 
 pub halving-end : {table : List ℕ} {m key base len : ℕ} → Halving table m key base len → len ≤ 0 → Lower table m key base
@@ -188,10 +188,6 @@ starts found k all left e = rw (← e) (start found k all)
 pub room : {found₀ : List ℕ} {k₀ : ℕ} {all found : List ℕ} {k : ℕ} {left : List ℕ} → Found found₀ k₀ all found k left
     → (part left' : List ℕ) → left ≡ part ++ left' → k₀ + length all ≤ length found₀ → k + length part ≤ length found
 room g part left' e h = omega (arith, g .long, g .count, ap length e, length-append part left')
-
-pub half-less : (t : Bool) (len : ℕ) → 0 < len → cond t (len - len / 2 - 1) (len / 2) < len
-half-less true len h = omega arith
-half-less false len h = omega arith
 
 module _ (table : List ℕ) (m : ℕ) where
   -- equal keys, equal places

@@ -16,7 +16,8 @@ ghost use Rattle.index_near.specs.Near.{threeHits, upperOf, Nines, oneHi
 // A range of more entries is not walked: nine searches cost what so many steps cost.
 const CROWD: usize = 64;
 
-// Where the keys from `key` on start, which is from lo to hi. The turns have no branch but the loop's own.
+// Where the keys from `key` on start, which is from lo to hi. How often it halves depends on neither key
+// nor table, so that searches in a row do not wait for each other.
 fn lower(table: &[u64], m: usize, lo: usize, hi: usize, key: u64) -> usize
     requires { ⌜ Ready (now table) m ⌝ ∗ ⌜ Between (now table) m lo hi key ⌝ }
     ensures { λ r. ⌜ Lower (now (table .entry)) m key r ⌝ }
@@ -24,10 +25,9 @@ fn lower(table: &[u64], m: usize, lo: usize, hi: usize, key: u64) -> usize
     let mut base = lo;
     let mut len = hi - lo;
     while 0 < len {
-        let half = len / 2;
-        let less = table[base + half] < key;
-        base = chosen(less, base + half + 1, base);
-        len = chosen(less, len - half - 1, half);
+        let half = len - len / 2;
+        base = chosen(table[base + half - 1] < key, base + half, base);
+        len /= 2;
     }
     base
 }

@@ -1,11 +1,7 @@
 -- `index_near::lower` meets its contract: where the keys start is between the two ends, which halving brings together. Assumes nothing.
-use denote.Ref.{now}
-use lib.ListN.{getD}
 use mathlib.Core.Path.{refl}
-use Prim.Native.Nat.{_+_, _-_, _/_}
-use Rattle.index_near.proofs.Ranges.{Halving, halving-start, halving-step, halving-end, half-less}
-use lib.Dec.{ltb}
 use borrow.Author.Needs.{needs}
+use Rattle.index_near.proofs.Ranges.{Halving, halving-start, halving-step, halving-end}
 use Rattle.index_near.proofs.lower.Statement.{statement}
 use Rattle.index_near.proofs.lower.Tie as tie
 
@@ -21,17 +17,20 @@ sub-len c = search needs
 loop-holds : tie.Need-loop-holds Inv-loop μ-loop
 loop-holds c = halving-start (c .before .pre .1)
 
-add-less : tie.Need-add-less Inv-loop μ-loop
-add-less c = search needs
-
-mul-less : tie.Need-mul-less Inv-loop μ-loop
-mul-less c = search needs
-
-shared-slice-read-less : tie.Need-shared-slice-read-less Inv-loop μ-loop
-shared-slice-read-less c = search needs
+sub-half : tie.Need-sub-half Inv-loop μ-loop
+sub-half c = search needs
 
 add-chosen : tie.Need-add-chosen Inv-loop μ-loop
 add-chosen c = search needs
+
+sub-chosen : tie.Need-sub-chosen Inv-loop μ-loop
+sub-chosen c = search needs
+
+mul-chosen : tie.Need-mul-chosen Inv-loop μ-loop
+mul-chosen c = search needs
+
+shared-slice-read-chosen : tie.Need-shared-slice-read-chosen Inv-loop μ-loop
+shared-slice-read-chosen c = search needs
 
 add-chosen-2 : tie.Need-add-chosen-2 Inv-loop μ-loop
 add-chosen-2 c = search needs
@@ -39,20 +38,11 @@ add-chosen-2 c = search needs
 chosen-requires : tie.Need-chosen-requires Inv-loop μ-loop
 chosen-requires c κs = search needs
 
-sub-chosen : tie.Need-sub-chosen Inv-loop μ-loop
-sub-chosen c = search needs
-
-sub-chosen-2 : tie.Need-sub-chosen-2 Inv-loop μ-loop
-sub-chosen-2 c = search needs
-
-chosen-requires-2 : tie.Need-chosen-requires-2 Inv-loop μ-loop
-chosen-requires-2 c κs = search needs
-
 loop-less : tie.Need-loop-less Inv-loop μ-loop
-loop-less c = let l = c .before .before .before .before .loop in rw (c .chosen2 .ensures) (half-less (ltb (getD (now (c .before .before .before .before .before .before .args .table)) (l .base + l .len / 2) 0) (c .before .before .before .before .before .before .args .key)) (l .len) (c .before .before .before .loop-test .taken))
+loop-less c = search needs
 
 loop-again : tie.Need-loop-again Inv-loop μ-loop
-loop-again c = rw (c .before .chosen .ensures, c .chosen2 .ensures) (halving-step (c .before .before .before .before .before .before .pre .0) (c .before .before .before .before .loop .inv) (c .before .before .before .loop-test .taken) _ refl _ refl)
+loop-again c = rw (c .chosen .ensures) (halving-step (c .before .before .before .before .before .pre .0) (c .before .before .before .loop .inv) (c .before .before .loop-test .taken) _ refl _ refl)
 
 returns : tie.Need-returns Inv-loop μ-loop
 returns c = halving-end (c .before .loop .inv) (c .loop-test .left)
@@ -65,15 +55,13 @@ lower-spec =
     μ-loop
     sub-len
     loop-holds
-    add-less
-    mul-less
-    shared-slice-read-less
+    sub-half
     add-chosen
+    sub-chosen
+    mul-chosen
+    shared-slice-read-chosen
     add-chosen-2
     chosen-requires
-    sub-chosen
-    sub-chosen-2
-    chosen-requires-2
     loop-less
     loop-again
     returns)
