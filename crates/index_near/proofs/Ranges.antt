@@ -2,7 +2,7 @@
 use mathlib.Core.Path.{_≡_, refl, ap, _∙_}
 use mathlib.Core.Bool.{Bool, true, false, cond, _&&_, true≢false}
 use mathlib.Core.List.{List, [], _∷_, _++_}
-use Prim.Native.Nat.{ℕ, _+_, _-_, _/_, _%_, _^_, _≤_, _<_}
+use Prim.Native.Nat.{ℕ, zero, suc, _+_, _-_, _*_, _/_, _%_, _^_, _≤_, _<_}
 use native.Mathlib.Nat.{sub-zero}
 use native.Mathlib.Omega.{arith}
 use borrow.Author.Tests.{ltb-true, ltb-false, leb-true, leb-false, le-leb, lt-leb}
@@ -46,6 +46,18 @@ halving-step {table} {m} {key} {base} {len} r h s half d false e = record {
 
 pub halving-end : {table : List ℕ} {m key base len : ℕ} → Halving table m key base len → len ≤ 0 → Lower table m key base
 halving-end h s = record { within = omega (arith, h .within); below = h .below; above = λ k p l. h .above k (omega arith) l }
+
+-- all entries are left at the start
+pub halving-all : (table : List ℕ) (m key : ℕ) → Halving table m key 0 m
+halving-all table m key = record { within = omega arith; below = λ k h. absurd (omega arith); above = λ k p h. absurd (omega arith) }
+
+-- where the keys of three lanes 0 start
+pub three-starts : {table : List ℕ} {m first a b c : ℕ} → Lower table m first a → Lower table m (first + 0x1_0000_0000_0000) b → Lower table m (first + 0x2_0000_0000_0000) c
+    → (d : ℕ) → d < 3 → Lower table m (first + d * 2 ^ 48) (getD (a ∷ b ∷ c ∷ []) d 0)
+three-starts {first = first} u v w zero h = let e : first + 0 * 2 ^ 48 ≡ first = omega arith in rw e u
+three-starts {first = first} u v w (suc zero) h = let e : first + 1 * 2 ^ 48 ≡ first + 0x1_0000_0000_0000 = omega arith in rw e v
+three-starts {first = first} u v w (suc (suc zero)) h = let e : first + 2 * 2 ^ 48 ≡ first + 0x2_0000_0000_0000 = omega arith in rw e w
+three-starts u v w (suc (suc (suc d))) h = absurd (omega arith)
 
 -- the keys from a higher one on start after those from a lower one on
 pub after : {table : List ℕ} {m from lo : ℕ} → Lower table m from lo → (key : ℕ) → from ≤ key → Between table m lo m key

@@ -2,7 +2,7 @@
 use index_table::chosen;
 use quad_key::Hash;
 ghost use mathlib.Core.Path.{_≡_};
-ghost use mathlib.Core.Bool.{_&&_};
+ghost use mathlib.Core.Bool.{cond, _&&_};
 ghost use mathlib.Core.List.{_++_};
 ghost use Prim.Native.Nat.{ℕ, _+_, _-_, _*_, _^_, _≤_, _<_};
 ghost use lib.Dec.{ltb, leb};
@@ -16,8 +16,16 @@ ghost use Rattle.index_near.specs.Near.{threeHits, upperOf, Nines, oneHi
 // A range of more entries is not walked: nine searches cost what so many steps cost.
 const CROWD: usize = 64;
 
-// Where the keys from `key` on start, which is from lo to hi. How often it halves depends on neither key
-// nor table, so that searches in a row do not wait for each other.
+// Past the next `half` entries after base where all of them are below `key`, and else base. How often a
+// search halves depends on neither key nor table: searches in a row do not wait for each other.
+fn past(table: &[u64], base: usize, half: usize, key: u64) -> usize
+    requires { ⌜ 0 < half ⌝ ∗ ⌜ base + half ≤ length (now table) ⌝ }
+    ensures { λ r. ⌜ r ≡ cond (ltb (getD (now (table .entry)) (base + half - 1) 0) key) (base + half) base ⌝ }
+{
+    chosen(table[base + half - 1] < key, base + half, base)
+}
+
+// Where the keys from `key` on start, which is from lo to hi.
 fn lower(table: &[u64], m: usize, lo: usize, hi: usize, key: u64) -> usize
     requires { ⌜ Ready (now table) m ⌝ ∗ ⌜ Between (now table) m lo hi key ⌝ }
     ensures { λ r. ⌜ Lower (now (table .entry)) m key r ⌝ }
@@ -25,11 +33,30 @@ fn lower(table: &[u64], m: usize, lo: usize, hi: usize, key: u64) -> usize
     let mut base = lo;
     let mut len = hi - lo;
     while 0 < len {
-        let half = len - len / 2;
-        base = chosen(table[base + half - 1] < key, base + half, base);
+        base = past(table, base, len - len / 2, key);
         len /= 2;
     }
     base
+}
+
+// Where the keys start from a first one on, and from those with the next two lanes 0: three searches side
+// by side take the time of one.
+fn lower_three(table: &[u64], m: usize, first: u64) -> [usize; 3]
+    requires { ⌜ Ready (now table) m ⌝ ∗ ⌜ first + 0x2_0000_0000_0000 < 2 ^ 64 ⌝ }
+    ensures { λ r. ⌜ (length r ≡ 3) × ((d : ℕ) → d < 3 → Lower (now (table .entry)) m (first + d * 2 ^ 48) (getD r d 0)) ⌝ }
+{
+    let mut a = 0usize;
+    let mut b = 0usize;
+    let mut c = 0usize;
+    let mut len = m;
+    while 0 < len {
+        let half = len - len / 2;
+        a = past(table, a, half, first);
+        b = past(table, b, half, first + 0x1_0000_0000_0000);
+        c = past(table, c, half, first + 0x2_0000_0000_0000);
+        len /= 2;
+    }
+    [a, b, c]
 }
 
 // Whether entry k is there and its key is `to` at most.
@@ -133,14 +160,14 @@ fn gather_nine(table: &[u64], m: usize, lo: usize, from: u64, found: &mut [u16],
     q
 }
 
-// Writes the places of a first key's range: a crowded one goes by its runs, and any other is walked.
-fn gather_lane(table: &[u64], m: usize, from: u64, found: &mut [u16], n: usize) -> usize
-    requires { ⌜ Ready (now table) m ⌝ ∗ ⌜ lastOf from < 2 ^ 64 ⌝
+// Writes the places of a first key's range, which starts at lo: a crowded one goes by its runs, and any
+// other is walked.
+fn gather_lane(table: &[u64], m: usize, lo: usize, from: u64, found: &mut [u16], n: usize) -> usize
+    requires { ⌜ Ready (now table) m ⌝ ∗ ⌜ Lower (now table) m from lo ⌝ ∗ ⌜ lastOf from < 2 ^ 64 ⌝
         ∗ ⌜ n + length (hits (now table) m from (lastOf from)) ≤ length (now found) ⌝ }
     ensures { λ r. ⌜ (r ≡ n + length (hits (now (table .entry)) m from (lastOf from)))
         × (take r (now (found .exit)) ≡ take n (now (found .entry)) ++ hits (now (table .entry)) m from (lastOf from)) ⌝ }
 {
-    let lo = lower(table, m, 0, m, from);
     if is_within(table, m, from + 0x2_0002_0002, lo + CROWD) {
         return gather_nine(table, m, lo, from, found, n);
     }
@@ -154,9 +181,17 @@ fn gather_three(table: &[u64], m: usize, first: u64, found: &mut [u16], n: usize
     ensures { λ r. ⌜ (r ≡ n + length (threeHits (now (table .entry)) m first))
         × (take r (now (found .exit)) ≡ take n (now (found .entry)) ++ threeHits (now (table .entry)) m first) ⌝ }
 {
+    let starts = lower_three(table, m, first);
     let mut q = n;
-    for d in 0..3u64 {
-        q = gather_lane(table, m, first + d * 0x1_0000_0000_0000, found, q);
+    for d in 0..3usize {
+        q = gather_lane(
+            table,
+            m,
+            starts[d],
+            first + d as u64 * 0x1_0000_0000_0000,
+            found,
+            q,
+        );
     }
     q
 }

@@ -16,10 +16,13 @@ abbrev part : List ℕ → ℕ → ℕ → ℕ → List ℕ
 part table m first d = hits table m (first + d * 2 ^ 48) (lastOf (first + d * 2 ^ 48))
 
 abbrev Inv-loop : tie.InvT-loop
-Inv-loop table m first found₀ n q₀ d₀ found q d = (d ≤ 3) × Found found₀ n (threeHits table m first) found q (over (part table m first) d (3 - d))
+Inv-loop table m first found₀ n starts q₀ d₀ found q d = (d ≤ 3) × Found found₀ n (threeHits table m first) found q (over (part table m first) d (3 - d))
 
 abbrev μ-loop : tie.MeasureT-loop
-μ-loop table m first found₀ n q₀ d₀ found q d = 3 - d
+μ-loop table m first found₀ n starts q₀ d₀ found q d = 3 - d
+
+lower-three-requires : tie.Need-lower-three-requires Inv-loop μ-loop
+lower-three-requires c κs = search needs
 
 loop-holds : tie.Need-loop-holds Inv-loop μ-loop
 loop-holds c = (omega arith, start _ _ _)
@@ -27,15 +30,21 @@ loop-holds c = (omega arith, start _ _ _)
 mul-gather-lane : tie.Need-mul-gather-lane Inv-loop μ-loop
 mul-gather-lane c = search needs
 
+array-read-gather-lane : tie.Need-array-read-gather-lane Inv-loop μ-loop
+array-read-gather-lane c = search needs
+
+mul-gather-lane-2 : tie.Need-mul-gather-lane-2 Inv-loop μ-loop
+mul-gather-lane-2 c = search needs
+
 add-gather-lane : tie.Need-add-gather-lane Inv-loop μ-loop
 add-gather-lane c = search needs
 
 gather-lane-requires : tie.Need-gather-lane-requires Inv-loop μ-loop
-gather-lane-requires c κs = let a = c .before .before .before .before .before .args in
+gather-lane-requires c κs = let a = c .before .before .before .before .before .before .args in
     let l = c .before .before .loop in
-    let pre = c .before .before .before .before .before .pre in
+    let pre = c .before .before .before .before .before .before .pre in
     let f = part (now (a .table)) (a .m) (a .first) in
-    (pre .0, (omega (arith, pre .1 .0), room (l .inv .1) (f (l .d)) (over f (l .d + 1) (3 - (l .d + 1))) (over-more f (l .d) 3 (c .before .loop-test .taken)) (pre .1 .1)))
+    (pre .0, (c .before .before .before .lower-three .ensures .1 (l .d) (c .before .loop-test .taken), (omega (arith, pre .1 .0), room (l .inv .1) (f (l .d)) (over f (l .d + 1) (3 - (l .d + 1))) (over-more f (l .d) 3 (c .before .loop-test .taken)) (pre .1 .1))))
 
 add-d : tie.Need-add-d Inv-loop μ-loop
 add-d c = search needs
@@ -44,17 +53,17 @@ loop-less : tie.Need-loop-less Inv-loop μ-loop
 loop-less c = search needs
 
 loop-again : tie.Need-loop-again Inv-loop μ-loop
-loop-again c = let a = c .before .before .before .before .before .before .before .before .args in
+loop-again c = let a = c .before .before .before .before .before .before .before .before .before .args in
     let l = c .before .before .before .before .before .loop in
     let v = c .before .before .gather-lane in
     let f = part (now (a .table)) (a .m) (a .first) in
-    (omega arith, step (l .inv .1) (f (l .d)) (over f (l .d + 1) (3 - (l .d + 1))) (v .last .1 .1 .1 .0) (v .result) (over-more f (l .d) 3 (c .before .before .before .before .loop-test .taken)) (v .kept .1 .1 .1 .0) (v .ensures))
+    (omega arith, step (l .inv .1) (f (l .d)) (over f (l .d + 1) (3 - (l .d + 1))) (v .last .1 .1 .1 .1 .0) (v .result) (over-more f (l .d) 3 (c .before .before .before .before .loop-test .taken)) (v .kept .1 .1 .1 .1 .0) (v .ensures))
 
 same-length : tie.Need-same-length Inv-loop μ-loop
 same-length c = c .before .loop .inv .1 .long
 
 returns : tie.Need-returns Inv-loop μ-loop
-returns c = let a = c .before .before .before .before .args in ended (c .before .loop .inv .1) (over-end (part (now (a .table)) (a .m) (a .first)) (c .before .loop .d) 3 (c .loop-test .left))
+returns c = let a = c .before .before .before .before .before .args in ended (c .before .loop .inv .1) (over-end (part (now (a .table)) (a .m) (a .first)) (c .before .loop .d) 3 (c .loop-test .left))
 
 pub gather-three-spec : {M : Type 1} → statement M
 gather-three-spec =
@@ -62,8 +71,11 @@ gather-three-spec =
     (tie.spec
     Inv-loop
     μ-loop
+    lower-three-requires
     loop-holds
     mul-gather-lane
+    array-read-gather-lane
+    mul-gather-lane-2
     add-gather-lane
     gather-lane-requires
     add-d

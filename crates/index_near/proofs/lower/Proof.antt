@@ -1,5 +1,6 @@
 -- `index_near::lower` meets its contract: where the keys start is between the two ends, which halving brings together. Assumes nothing.
 use mathlib.Core.Path.{refl}
+use native.Mathlib.Omega.{arith}
 use borrow.Author.Needs.{needs}
 use Rattle.index_near.proofs.Ranges.{Halving, halving-start, halving-step, halving-end}
 use Rattle.index_near.proofs.lower.Statement.{statement}
@@ -17,32 +18,17 @@ sub-len c = search needs
 loop-holds : tie.Need-loop-holds Inv-loop μ-loop
 loop-holds c = halving-start (c .before .pre .1)
 
-sub-half : tie.Need-sub-half Inv-loop μ-loop
-sub-half c = search needs
+sub-past : tie.Need-sub-past Inv-loop μ-loop
+sub-past c = search needs
 
-add-chosen : tie.Need-add-chosen Inv-loop μ-loop
-add-chosen c = search needs
-
-sub-chosen : tie.Need-sub-chosen Inv-loop μ-loop
-sub-chosen c = search needs
-
-mul-chosen : tie.Need-mul-chosen Inv-loop μ-loop
-mul-chosen c = search needs
-
-shared-slice-read-chosen : tie.Need-shared-slice-read-chosen Inv-loop μ-loop
-shared-slice-read-chosen c = search needs
-
-add-chosen-2 : tie.Need-add-chosen-2 Inv-loop μ-loop
-add-chosen-2 c = search needs
-
-chosen-requires : tie.Need-chosen-requires Inv-loop μ-loop
-chosen-requires c κs = search needs
+past-requires : tie.Need-past-requires Inv-loop μ-loop
+past-requires c κs = search needs
 
 loop-less : tie.Need-loop-less Inv-loop μ-loop
 loop-less c = search needs
 
 loop-again : tie.Need-loop-again Inv-loop μ-loop
-loop-again c = rw (c .chosen .ensures) (halving-step (c .before .before .before .before .before .pre .0) (c .before .before .before .loop .inv) (c .before .before .loop-test .taken) _ refl _ refl)
+loop-again c = rw (c .past .ensures) (halving-step (c .before .before .before .before .pre .0) (c .before .before .loop .inv) (c .before .loop-test .taken) _ refl _ refl)
 
 returns : tie.Need-returns Inv-loop μ-loop
 returns c = halving-end (c .before .loop .inv) (c .loop-test .left)
@@ -55,13 +41,8 @@ lower-spec =
     μ-loop
     sub-len
     loop-holds
-    sub-half
-    add-chosen
-    sub-chosen
-    mul-chosen
-    shared-slice-read-chosen
-    add-chosen-2
-    chosen-requires
+    sub-past
+    past-requires
     loop-less
     loop-again
     returns)
