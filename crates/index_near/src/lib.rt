@@ -16,8 +16,7 @@ ghost use Rattle.index_near.specs.Near.{threeHits, upperOf, Nines, oneHi
 // A range of more entries is not walked: nine searches cost what so many steps cost.
 const CROWD: usize = 64;
 
-// Past the next `half` entries after base where all of them are below `key`, and else base. How often a
-// search halves depends on neither key nor table: searches in a row do not wait for each other.
+// Past the next `half` entries from base on where all of them are below `key`, and else base.
 fn past(table: &[u64], base: usize, half: usize, key: u64) -> usize
     requires { ⌜ 0 < half ⌝ ∗ ⌜ base + half ≤ length (now table) ⌝ }
     ensures { λ r. ⌜ r ≡ cond (ltb (getD (now (table .entry)) (base + half - 1) 0) key) (base + half) base ⌝ }
@@ -25,7 +24,8 @@ fn past(table: &[u64], base: usize, half: usize, key: u64) -> usize
     chosen(table[base + half - 1] < key, base + half, base)
 }
 
-// Where the keys from `key` on start, which is from lo to hi.
+// Where the keys from `key` on start, which is from lo to hi. It halves as often for every key, so that no
+// branch of it is guessed wrong.
 fn lower(table: &[u64], m: usize, lo: usize, hi: usize, key: u64) -> usize
     requires { ⌜ Ready (now table) m ⌝ ∗ ⌜ Between (now table) m lo hi key ⌝ }
     ensures { λ r. ⌜ Lower (now (table .entry)) m key r ⌝ }
