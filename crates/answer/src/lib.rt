@@ -24,7 +24,7 @@ pub enum Refusal {
     Degenerate,
     // the CD draw ends with fewer than three rows on
     Few,
-    // a program's text is not in its form
+    // a text is not in its form: a program's input, a record
     Form,
 }
 
