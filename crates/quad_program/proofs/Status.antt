@@ -17,7 +17,8 @@ use Rattle.quad.specs.Quads.{inputAnswer, answerAfter, quadPlaces}
 use Rattle.quad.proofs.Numbers.{Tested, input-number}
 use Rattle.quad_program.specs.declared.Star.{Star}
 use Rattle.quad_program.specs.declared.Star.the-variants as star
-use Rattle.quad_program.specs.Form.{Sky, Form, hexField, decimalField, starOf, starsFrom, oneMore, starThen, withStars, afterLeast, afterK, kName, leastName, newline, parsed}
+use Rattle.scan_fields.specs.Fields.{hexField, decimalField}
+use Rattle.quad_program.specs.Form.{Sky, Form, starOf, starsFrom, oneMore, starThen, withStars, afterLeast, afterK, kName, leastName, newline, parsed}
 use Rattle.quad_program.specs.Program.{quadsOf, answerTo, quadsNumber, statusOf}
 
 -- ---- as many x as y

@@ -8,7 +8,8 @@ use Rattle.scan.specs.Read.{readBytes}
 use Rattle.digits.specs.Digits.{hexFrom, decimalFrom, decimalOf}
 use Rattle.text.specs.Lines.{decimalLine}
 use Rattle.quad.specs.Quads.{inputAnswer}
-use Rattle.quad_program.specs.Form.{Form, hexField, decimalField, starOf, starsFrom, parsed}
+use Rattle.scan_fields.specs.Fields.{hexField, decimalField}
+use Rattle.quad_program.specs.Form.{Form, starOf, starsFrom, parsed}
 use Rattle.quad_program.specs.Print.{numbered, placesLine, keyLine, statusLine, linesOf}
 use Rattle.quad_program.specs.Program.{quadsOf, statusOf, quadsLines, programText}
 

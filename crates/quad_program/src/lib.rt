@@ -2,14 +2,13 @@
 use answer::Refusal;
 use quad::Quads;
 use quad_key::Hash;
-use scan::Place;
 use scan_digits::Number;
 ghost use mathlib.Core.Path.{_≡_};
 ghost use Prim.Native.Nat.{_+_, _*_, _≤_};
 ghost use lib.ListN.{length, take, drop};
 ghost use Rattle.put.specs.Put.{Put, Room};
 ghost use Rattle.scan.specs.Read.{readBytes};
-ghost use Rattle.quad_program.specs.Form.{endedAt, hexField, decimalField, starOf, starsFrom, skyIn, starCount, parsed, formIn, parsedStars};
+ghost use Rattle.quad_program.specs.Form.{starOf, starsFrom, skyIn, starCount, parsed, formIn, parsedStars};
 ghost use Rattle.quad_program.specs.Print.{numbered, placesLine, keyLine, quadLines, allLines, statusLine, foundText};
 ghost use Rattle.quad_program.specs.Program.{quadsText, programText};
 
@@ -37,49 +36,13 @@ enum Parsed {
     Wrong,
 }
 
-// A number with the place after the text that has to follow it.
-fn ended(s: &[u8], n: u64, at: usize, end: &[u8]) -> Number
-    ensures { λ r. ⌜ r ≡ endedAt n (readBytes (now (end .entry)) (drop at (now (s .entry))) at) ⌝ }
-{
-    match scan::read_bytes(s, at, end) {
-        Place::Not(p) => Number::Wrong(p),
-        Place::Next(p) => Number::Is(n, p),
-    }
-}
-
-// Reads a name, a decimal number and an end.
-fn decimal_field(s: &[u8], at: usize, name: &[u8], end: &[u8]) -> Number
-    ensures { λ r. ⌜ r ≡ decimalField (now (name .entry)) (now (end .entry)) (now (s .entry)) at ⌝ }
-{
-    match scan::read_bytes(s, at, name) {
-        Place::Not(p) => Number::Wrong(p),
-        Place::Next(p) => match scan_digits::read_decimal(s, p) {
-            Number::Wrong(q) => Number::Wrong(q),
-            Number::Is(n, q) => ended(s, n, q, end),
-        },
-    }
-}
-
-// Reads a name, 16 hexadecimal digits and an end.
-fn hex_field(s: &[u8], at: usize, name: &[u8], end: &[u8]) -> Number
-    ensures { λ r. ⌜ r ≡ hexField (now (name .entry)) (now (end .entry)) (now (s .entry)) at ⌝ }
-{
-    match scan::read_bytes(s, at, name) {
-        Place::Not(p) => Number::Wrong(p),
-        Place::Next(p) => match scan_digits::read_hex(s, p) {
-            Number::Wrong(q) => Number::Wrong(q),
-            Number::Is(n, q) => ended(s, n, q, end),
-        },
-    }
-}
-
 // Reads the line of a star.
 fn read_star(s: &[u8], at: usize) -> Star
     ensures { λ r. ⌜ r ≡ starOf (now (s .entry)) at ⌝ }
 {
-    match hex_field(s, at, b"star=", b",") {
+    match scan_fields::hex_field(s, at, b"star=", b",") {
         Number::Wrong(_) => Star::Wrong,
-        Number::Is(x, p) => match hex_field(s, p, b"", b"\n") {
+        Number::Is(x, p) => match scan_fields::hex_field(s, p, b"", b"\n") {
             Number::Wrong(_) => Star::Wrong,
             Number::Is(y, q) => Star::At(scan_digits::of_bits(x), scan_digits::of_bits(y), q),
         },
@@ -116,10 +79,10 @@ fn parse(s: &[u8], xs: &mut [f64], ys: &mut [f64]) -> Parsed
     if MOST_BYTES < s.len() {
         return Parsed::Wrong;
     }
-    let Number::Is(k, p) = decimal_field(s, 0, b"k=", b"\n") else {
+    let Number::Is(k, p) = scan_fields::decimal_field(s, 0, b"k=", b"\n") else {
         return Parsed::Wrong;
     };
-    let Number::Is(least, q) = hex_field(s, p, b"min_spine_sq=", b"\n") else {
+    let Number::Is(least, q) = scan_fields::hex_field(s, p, b"min_spine_sq=", b"\n") else {
         return Parsed::Wrong;
     };
     match read_stars(s, q, xs, ys) {

@@ -1,17 +1,16 @@
 -- Laws of numbers that are read: each way on and each way out of the loops.
-use mathlib.Core.Path.{_≡_, refl, sym, ap, _∙_, subst}
-use mathlib.Core.Bool.{Bool, true, false, cond, not, _&&_}
-use mathlib.Core.List.{List, [], _∷_}
+use mathlib.Core.Path.{_≡_, sym, ap, _∙_, subst}
+use mathlib.Core.Bool.{Bool, true, false, not, _&&_}
+use mathlib.Core.List.{List}
 use Prim.Native.Nat.{ℕ, suc, _+_, _-_, _*_, _/_, _%_, _^_, _≤_, _<_}
 use native.Mathlib.Numerals.{add-one}
 use native.Mathlib.Omega.{arith}
-use borrow.Author.Tests.{lt-ltb, le-ltb, eq-eqb, ne-eqb, ltb-true, ltb-false}
-use lib.Dec.{T, ltb, eqb}
+use borrow.Author.Tests.{lt-ltb, le-ltb, eq-eqb, ne-eqb}
+use lib.Dec.{T, eqb}
 use lib.Pow.{pow-add, pow-mono}
 use lib.Ieee.{nan, binary64, ofBits, ofFields, nanBits}
 use lib.ListN.{length, getD, drop, drop-of-length-le}
 use lib.Seq.{drop-cons}
-use Rattle.scan_digits.specs.declared.Number.{Number}
 use Rattle.scan_digits.specs.declared.Number.the-variants.{Is, Wrong}
 use Rattle.scan_digits.specs.Read.{hexValue, readHex, decimalValue, held, moreDecimal, readDecimal}
 
@@ -106,59 +105,6 @@ pub decimal-first : (s : List ℕ) (p d : ℕ) → p < length s → d ≡ decima
 unfolding readDecimal
 decimal-first s p d hp e hd z =
     rw (drop-cons s p 0 hp, ← e, lt-ltb d 10 hd, ne-eqb d 0 z, add-one p)
-
--- a number up to 2 ^ 32 and a place from lo to hi, or only such a place
-abbrev pub Within : ℕ → ℕ → Number → Type 0
-Within lo hi (Is n q) = (n ≤ 4294967296) × (lo ≤ q) × (q ≤ hi)
-Within lo hi (Wrong q) = (lo ≤ q) × (q ≤ hi)
-
--- what is read from the next place on lies in what is left here
-one-earlier : (p k : ℕ) (r : Number) → Within (p + 1) (p + 1 + k) r → Within p (p + suc k) r
-one-earlier p k (Is n q) w = (w .0, omega (arith, w .1), omega (arith, w .2))
-one-earlier p k (Wrong q) w = (omega (arith, w .0), omega (arith, w .1))
-
--- a held number is at most 2 ^ 32
-held-most : (n : ℕ) → held n ≤ 4294967296
-held-most n = go (ltb 4294967296 n) refl where
-  go : (b : Bool) → ltb 4294967296 n ≡ b → held n ≤ 4294967296
-  go true e = rw e (omega arith)
-  go false e = rw e (ltb-false 4294967296 n e)
-
--- either of two answers
-either-within : (b : Bool) (lo hi : ℕ) (x y : Number) → Within lo hi x → Within lo hi y → Within lo hi (cond b x y)
-either-within true lo hi x y v w = v
-either-within false lo hi x y v w = w
-
--- what further digits make of acc
-more-within : (l : List ℕ) (p acc : ℕ) → acc ≤ 4294967296 → Within p (p + length l) (moreDecimal l p acc)
-unfolding moreDecimal
-more-within [] p acc h = (h, omega arith, omega arith)
-more-within (c ∷ cs) p acc h =
-    let a = held (acc * 10 + decimalValue c) in
-    let m = moreDecimal cs (p + 1) a in
-    let w = one-earlier p (length cs) m (more-within cs (p + 1) a (held-most (acc * 10 + decimalValue c))) in
-    either-within (ltb (decimalValue c) 10) p (p + suc (length cs)) m (Is acc p) w (h, omega arith, omega arith)
-
--- a digit's value is at most 10
-value-most : (b : ℕ) → decimalValue b ≤ 10
-unfolding decimalValue
-value-most b = go (ltb b 48) (ltb b 58) refl where
-  go : (x y : Bool) → ltb b 58 ≡ y → cond x 10 (cond y (b - 48) 10) ≤ 10
-  go true y e = omega arith
-  go false true e = omega (arith, ltb-true b 58 e)
-  go false false e = omega arith
-
--- what is read of l, from p on
-pub decimal-within : (l : List ℕ) (p : ℕ) → Within p (p + length l) (readDecimal l p)
-unfolding readDecimal
-decimal-within [] p = (omega arith, omega arith)
-decimal-within (c ∷ cs) p =
-    let d = decimalValue c in
-    let m = moreDecimal cs (p + 1) d in
-    let q = p + suc (length cs) in
-    let w = one-earlier p (length cs) m (more-within cs (p + 1) d (omega (arith, value-most c))) in
-    let v = either-within (eqb d 0) p q (Is 0 (p + 1)) m (omega arith, omega arith, omega arith) w in
-    either-within (ltb d 10) p q (cond (eqb d 0) (Is 0 (p + 1)) m) (Wrong p) v (omega arith, omega arith)
 
 -- ---- bit patterns
 

@@ -1,7 +1,7 @@
--- `quad_program::ended` meets its contract: what is read after the number decides.
+-- `scan_fields::ended` meets its contract: what is read after the number decides.
 use borrow.Author.Needs.{needs}
-use Rattle.quad_program.proofs.ended.Statement.{statement}
-use Rattle.quad_program.proofs.ended.Tie as tie
+use Rattle.scan_fields.proofs.ended.Statement.{statement}
+use Rattle.scan_fields.proofs.ended.Tie as tie
 
 read-bytes-requires : tie.Need-read-bytes-requires
 read-bytes-requires c κs = search needs

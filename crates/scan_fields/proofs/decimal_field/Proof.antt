@@ -1,8 +1,8 @@
--- `quad_program::decimal_field` meets its contract: each way out is that of the definition, which reads the same in the same order.
-use Rattle.quad_program.specs.Form.{decimalField}
+-- `scan_fields::decimal_field` meets its contract: each way out is that of the definition, which reads the same in the same order.
+use Rattle.scan_fields.specs.Fields.{decimalField}
 use borrow.Author.Needs.{needs}
-use Rattle.quad_program.proofs.decimal_field.Statement.{statement}
-use Rattle.quad_program.proofs.decimal_field.Tie as tie
+use Rattle.scan_fields.proofs.decimal_field.Statement.{statement}
+use Rattle.scan_fields.proofs.decimal_field.Tie as tie
 
 read-bytes-requires : tie.Need-read-bytes-requires
 read-bytes-requires c κs = search needs
