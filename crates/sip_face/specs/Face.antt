@@ -1,6 +1,6 @@
 -- What `fit_sip` answers and writes when the result goes into what is lent. Definitions only.
 use mathlib.Core.Bool.{cond}
-use mathlib.Core.List.{List, [], _∷_}
+use mathlib.Core.List.{List, []}
 use Prim.Native.Nat.{ℕ}
 use lib.Dec.{ltb}
 use lib.Ieee.{Float}
@@ -8,16 +8,12 @@ use Rattle.answer.specs.declared.Answer.{Answer}
 use Rattle.rows.specs.Rows.{Rows}
 use Rattle.errors_face.specs.Face.{ofSix}
 use Rattle.wcs.specs.Wcs.{wcsIn}
-use Rattle.sip_terms.specs.declared.Sip.{Sip}
+use Rattle.sip_terms.specs.Sums.{sumsOf}
 use Rattle.sip_sums.specs.Field.{Field, field}
 use Rattle.sip_tests.specs.Tests.{fewField}
 use Rattle.sip.specs.Call.{sipAnswer, answerOf}
 use Rattle.sip.specs.declared.SipFit.{SipFit}
 use Rattle.sip.specs.declared.SipFit.the-variants as fit
-
--- the three sums of a fit
-abbrev pub sumsOf : Sip → List Float
-sumsOf s = s .«linear_rms» ∷ s .rms ∷ s .wrms ∷ []
 
 -- the rows that a fit used; a refusal has none
 abbrev pub usedIn : SipFit → ℕ

@@ -1,35 +1,22 @@
 // `fit_sip` for C: it answers its number, and writes its result into what is lent.
 use answer::Refusal;
 use sip::SipFit;
-use sip_terms::Sip;
 use wcs::Wcs;
 ghost use mathlib.Core.Path.{_≡_};
 ghost use Prim.Native.Nat.{_≤_};
 ghost use lib.ListN.{length};
-ghost use Rattle.answer.specs.Answers.{answerNumber, written, lentAfter, numberAfter};
+ghost use Rattle.answer.specs.Answers.{answerNumber, lentAfter, numberAfter};
 ghost use Rattle.rows.specs.Rows.{rows};
 ghost use Rattle.wcs.specs.Wcs.{wcsIn};
 ghost use Rattle.sip_sums.specs.Field.{field};
 ghost use Rattle.sip.specs.Call.{answerOf, sipAnswer, sipA, sipB};
-ghost use Rattle.sip_face.specs.Face.{sumsOf, usedIn, sumsIn, sipTold, sipFace};
+ghost use Rattle.sip_face.specs.Face.{usedIn, sumsIn, sipTold, sipFace};
 
 // The longest list of snr.
 const MOST_ROWS: usize = 100;
 
 // The three sums.
 const SUMS: usize = 3;
-
-// The numbers of a fit into what is lent.
-fn put_sip(s: Sip, rows_used: &mut u64, sums: &mut [f64])
-    requires { ⌜ 3 ≤ length (now sums) ⌝ }
-    ensures rows { λ _. ⌜ now («rows_used» .exit) ≡ s .«rows_used» ⌝ }
-    ensures sums { λ _. ⌜ now (sums .exit) ≡ written (sumsOf s) (now (sums .entry)) ⌝ }
-{
-    *rows_used = s.rows_used as u64;
-    sums[0] = s.linear_rms;
-    sums[1] = s.rms;
-    sums[2] = s.wrms;
-}
 
 // A fit into what is lent, where there is room.
 fn put_fit(fit: SipFit, rows_used: &mut u64, sums: &mut [f64]) -> u32
@@ -41,7 +28,7 @@ fn put_fit(fit: SipFit, rows_used: &mut u64, sums: &mut [f64]) -> u32
     match fit {
         SipFit::Refused(why) => why.number(),
         SipFit::Fitted(s) => {
-            put_sip(s, rows_used, sums);
+            sip_terms::put_sip(s, rows_used, sums);
             0
         }
     }

@@ -2,9 +2,11 @@
 ghost use mathlib.Core.Path.{_≡_};
 ghost use Prim.Native.Nat.{_+_, _<_, _≤_};
 ghost use lib.ListN.{length};
+ghost use Rattle.answer.specs.Answers.{written};
 ghost use Rattle.cd_plate.specs.Filled.{filled};
 ghost use Rattle.sip_terms.specs.Terms.{firstTerm, nextTerm, termCount, isKept, keptOf};
 ghost use Rattle.sip_terms.specs.Steps.{powersOf, basisIn};
+ghost use Rattle.sip_terms.specs.Sums.{sumsOf};
 
 // What a fit hands back beside its coefficients.
 pub struct Sip {
@@ -39,6 +41,18 @@ impl Sip {
             wrms,
         }
     }
+}
+
+// The numbers of a fit into what is lent.
+pub fn put_sip(s: Sip, rows_used: &mut u64, sums: &mut [f64])
+    requires { ⌜ 3 ≤ length (now sums) ⌝ }
+    ensures rows { λ _. ⌜ now («rows_used» .exit) ≡ s .«rows_used» ⌝ }
+    ensures sums { λ _. ⌜ now (sums .exit) ≡ written (sumsOf s) (now (sums .entry)) ⌝ }
+{
+    *rows_used = s.rows_used as u64;
+    sums[0] = s.linear_rms;
+    sums[1] = s.rms;
+    sums[2] = s.wrms;
 }
 
 // How many powers of a number there are, from 0 on.

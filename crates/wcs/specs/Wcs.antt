@@ -1,6 +1,6 @@
 -- A WCS: from six numbers, as a plate, and which ones are taken. Definitions only.
 use mathlib.Core.Bool.{Bool, _&&_}
-use mathlib.Core.List.{List}
+use mathlib.Core.List.{List, [], _∷_}
 use lib.ListN.{getD}
 use lib.Ieee.{Float, nan}
 use Rattle.domain.specs.Domain.{isPosition}
@@ -18,6 +18,10 @@ wcsIn l = record {
   cd2_1 = getD l 4 nan;
   cd2_2 = getD l 5 nan;
 }
+
+-- its six numbers
+abbrev pub wcsNumbers : Wcs → List Float
+wcsNumbers w = w .crpix1 ∷ w .crpix2 ∷ w .cd1_1 ∷ w .cd1_2 ∷ w .cd2_1 ∷ w .cd2_2 ∷ []
 
 -- the factors as a plate that adds nothing
 abbrev pub plateOf : Wcs → Cd

@@ -3,7 +3,8 @@ use cd_plate::Cd;
 ghost use mathlib.Core.Path.{_≡_};
 ghost use Prim.Native.Nat.{_≤_};
 ghost use lib.ListN.{length};
-ghost use Rattle.wcs.specs.Wcs.{wcsIn, plateOf, isWcs};
+ghost use Rattle.answer.specs.Answers.{written};
+ghost use Rattle.wcs.specs.Wcs.{wcsIn, wcsNumbers, plateOf, isWcs};
 
 // The reference pixel, and the factors from pixels to degrees.
 pub struct Wcs {
@@ -45,4 +46,17 @@ impl Wcs {
         let pixel = domain::is_position(self.crpix1) & domain::is_position(self.crpix2);
         pixel & self.plate().is_finite()
     }
+}
+
+// The numbers of a WCS to the front of a list.
+pub fn put_wcs(w: Wcs, wcs: &mut [f64])
+    requires { ⌜ 6 ≤ length (now wcs) ⌝ }
+    ensures { λ _. ⌜ now (wcs .exit) ≡ written (wcsNumbers w) (now (wcs .entry)) ⌝ }
+{
+    wcs[0] = w.crpix1;
+    wcs[1] = w.crpix2;
+    wcs[2] = w.cd1_1;
+    wcs[3] = w.cd1_2;
+    wcs[4] = w.cd2_1;
+    wcs[5] = w.cd2_2;
 }

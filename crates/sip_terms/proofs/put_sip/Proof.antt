@@ -1,12 +1,12 @@
--- `sip_face::put_sip` meets its contract: three stores from the front are what is written. Assumes nothing.
-use Rattle.sip_face.specs.Face.{sumsOf}
+-- `sip_terms::put_sip` meets its contract: three stores from the front are what is written. Assumes nothing.
+use Rattle.sip_terms.specs.Sums.{sumsOf}
 use Rattle.answer.proofs.Lent.{front}
 use lib.ListN.{length-set}
 use native.Mathlib.Omega.{arith}
 use mathlib.Core.Path.{refl}
 use borrow.Author.Needs.{needs}
-use Rattle.sip_face.proofs.put_sip.Statement.{statement}
-use Rattle.sip_face.proofs.put_sip.Tie as tie
+use Rattle.sip_terms.proofs.put_sip.Statement.{statement}
+use Rattle.sip_terms.proofs.put_sip.Tie as tie
 
 slice-write-sums : tie.Need-slice-write-sums
 slice-write-sums c = search needs
