@@ -29,12 +29,13 @@ use Rattle.sip_terms.proofs.Places.{few-terms}
 use Rattle.record_lines.specs.declared.Head.{Head}
 use Rattle.record_lines.specs.declared.Axis.{Axis}
 use Rattle.record_lines.specs.Names.{aLetter, bLetter, termName}
-use Rattle.record_lines.specs.Lines.{Solution, numberLine, withLine, termLines, recordOf, textOf}
-use Rattle.record_lines.specs.Parts.{startLines, cdLines, headLines, numbersOf, axisLines, errorLines}
+use Rattle.record_lines.specs.Lines.{Solution, numberLine, withLine, textOf}
+use Rattle.record_lines.specs.Parts.{startLines, cdLines, headLines, termLines, numbersOf, axisLines, errorLines}
 use Rattle.record_lines.proofs.Laws.{text-append}
+use Rattle.record_lines.proofs.Table.{headIn, record-parts}
 use Rattle.record_writer.specs.Wrote.{partsText}
 use Rattle.record.specs.declared.Recorded.the-variants as recorded
-use Rattle.record.specs.Record.{writtenAfter, recordText, isOrder, lengthsFit, inputAnswer, lineSize, termsSize, recordSize}
+use Rattle.record.specs.Record.{writtenAfter, recordText, isOrder, lengthsFit, inputAnswer, Passed, lineSize, termsSize, recordSize}
 
 -- ---- an input that passed its tests
 
@@ -44,9 +45,10 @@ in-order order b e n =
     let both = and-eq-true-iff (leb 2 order) (leb order 5) .0 (sym e ∙ not-false b n) in
     (leb-true 2 order (both .0), omega (arith, leb-true order 5 (both .1)))
 
--- its rows are at most 100, its order is at most 5, and it has as many coefficients on each axis as terms, at most 18
+-- its rows are at most 100, its order is 2 to 5, and it has as many coefficients on each axis as terms, at most 18
 pub record Checked (rows order a b : ℕ) : Type 0 where
   pub few-rows : rows ≤ 100
+  pub least : 2 ≤ order
   pub low : order ≤ 5
   pub a-is : a ≡ termCount order
   pub b-is : b ≡ termCount order
@@ -61,27 +63,23 @@ checked fit wcs order a b e =
     let v = passed (not (isWcs wcs)) refusal.Value (cond (not (isOrder order)) (answer.Refused refusal.Order) answer.Done) (g .1) in
     let o = passed (not (isOrder order)) refusal.Order answer.Done (v .1) in
     let is = not-false (isOrder order) (o .0) in
-    let low : order ≤ 5 = leb-true order 5 (and-eq-true-iff (leb 2 order) (leb order 5) .0 is .1) in
+    let orders = and-eq-true-iff (leb 2 order) (leb order 5) .0 is in
+    let low : order ≤ 5 = leb-true order 5 (orders .1) in
     let same : (eqb a (termCount order) && eqb b (termCount order)) ≡ true = (rw is at (not-false (lengthsFit order a b) (g .0))) in
     let both = and-eq-true-iff (eqb a (termCount order)) (eqb b (termCount order)) .0 same in
     let ea : a ≡ termCount order = eqb-true a (termCount order) (both .0) in
     let eb : b ≡ termCount order = eqb-true b (termCount order) (both .1) in
-    record { few-rows = ltb-false 100 (fit .«rows_used») (f .0); low = low; a-is = ea; b-is = eb; few-a = omega (arith, ea, few-terms order low); few-b = omega (arith, eb, few-terms order low) }
+    record { few-rows = ltb-false 100 (fit .«rows_used») (f .0); least = leb-true 2 order (orders .0); low = low; a-is = ea; b-is = eb; few-a = omega (arith, ea, few-terms order low); few-b = omega (arith, eb, few-terms order low) }
 
 -- ---- the parts of a record, one after the other, are its lines
 
--- the lines in four parts
-lines-parts : (s : Solution) → recordOf s ≡ headLines (record { rows = s .fit .«rows_used»; wcs = s .wcs; order = s .order }) ++ (termLines aLetter firstTerm (s .a) ++ (termLines bLetter firstTerm (s .b) ++ errorLines (s .fit)))
-unfolding recordOf headLines startLines cdLines errorLines
-lines-parts s = refl
-
-pub parts-record : (s : Solution) (h : Head) (x y : Axis) → h ≡ record { rows = s .fit .«rows_used»; wcs = s .wcs; order = s .order } → x .letter ≡ aLetter → numbersOf x ≡ s .a → y .letter ≡ bLetter → numbersOf y ≡ s .b
+pub parts-record : (s : Solution) (h : Head) (x y : Axis) → length (s .a) ≡ termCount (s .order) → length (s .b) ≡ termCount (s .order) → h ≡ headIn s → x .letter ≡ aLetter → numbersOf x ≡ s .a → y .letter ≡ bLetter → numbersOf y ≡ s .b
     → partsText h x y (s .fit) ≡ recordText s
 unfolding partsText axisLines
-parts-record s h x y e l n m k =
+parts-record s h x y ea eb e l n m k =
     let A = termLines aLetter firstTerm (s .a) in
     let B = termLines bLetter firstTerm (s .b) in
-    rw (e, l, n, m, k, lines-parts s, text-append (headLines (record { rows = s .fit .«rows_used»; wcs = s .wcs; order = s .order })) (A ++ (B ++ errorLines (s .fit))), text-append A (B ++ errorLines (s .fit)), text-append B (errorLines (s .fit)))
+    rw (e, l, n, m, k, record-parts s ea eb, text-append (headLines (headIn s)) (A ++ (B ++ errorLines (s .fit))), text-append A (B ++ errorLines (s .fit)), text-append B (errorLines (s .fit)))
 
 -- ---- sizes
 
@@ -108,31 +106,32 @@ unfolding termsSize
 size-none cs i h = rw (drop-of-length-le cs {i = i} h)
 
 -- the bytes of the lines before the terms
-head-size : (h : Head) → h .order < 10 → length (textOf (headLines h)) ≡ 163 + length (decimalOf (h .rows))
+pub head-size : (h : Head) → h .order < 10 → length (textOf (headLines h)) ≡ 163 + length (decimalOf (h .rows))
 unfolding headLines startLines cdLines textOf
 head-size h o =
     simp (length-append, length-float-line, length-decimal-line)
     (omega (arith, length-decimal-one 1 (omega arith), length-decimal-one (h .order) o))
 
 -- the bytes of the errors
-errors-size : (f : Sip) → length (textOf (errorLines f)) ≡ 71
+pub errors-size : (f : Sip) → length (textOf (errorLines f)) ≡ 71
 unfolding errorLines textOf
 errors-size f = simp (length-append, length-float-line) (omega arith)
 
 -- the bytes of a record
-pub record-size : (s : Solution) → s .order < 10 → length (recordText s) ≡ recordSize (s .fit .«rows_used») (s .a) (s .b)
-record-size s o =
-    let h : Head = record { rows = s .fit .«rows_used»; wcs = s .wcs; order = s .order } in
+pub record-size : (s : Solution) → Passed s → length (recordText s) ≡ recordSize (s .fit .«rows_used») (s .a) (s .b)
+record-size s p =
+    let k = checked (s .fit) (s .wcs) (s .order) (length (s .a)) (length (s .b)) p in
+    let h : Head = headIn s in
     let A = termLines aLetter firstTerm (s .a) in
     let B = termLines bLetter firstTerm (s .b) in
     let E = errorLines (s .fit) in
-    rw (lines-parts s, text-append (headLines h) (A ++ (B ++ E)), text-append A (B ++ E), text-append B E)
+    rw (record-parts s (k .a-is) (k .b-is), text-append (headLines h) (A ++ (B ++ E)), text-append A (B ++ E), text-append B E)
     (omega (
       arith,
       length-append (textOf (headLines h)) (textOf A ++ (textOf B ++ textOf E)),
       length-append (textOf A) (textOf B ++ textOf E),
       length-append (textOf B) (textOf E),
-      head-size h o,
+      head-size h (omega (arith, k .low)),
       terms-size aLetter firstTerm (s .a),
       terms-size bLetter firstTerm (s .b),
       errors-size (s .fit),

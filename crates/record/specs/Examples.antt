@@ -13,7 +13,9 @@ use Rattle.wcs.specs.declared.Wcs.{Wcs}
 use Rattle.wcs.specs.Wcs.{isWcs}
 use Rattle.sip_terms.specs.declared.Sip.{Sip}
 use Rattle.sip_terms.specs.Terms.{countTo, leastCoefficient}
-use Rattle.record_lines.specs.Lines.{Solution, termLines, recordOf, textOf}
+use Rattle.record_lines.specs.Lines.{Solution, textOf}
+use Rattle.record_lines.specs.Parts.{termLines}
+use Rattle.record_lines.specs.Table.{termSlots, linesOf, recordOf}
 use Rattle.record.specs.declared.Recorded.the-variants as recorded
 use Rattle.record.specs.Record.{recordText, lengthsFit, inputAnswer, recordAnswer}
 
@@ -63,16 +65,18 @@ whole : recordText settled ≡
     114 ∷ 109 ∷ 115 ∷ 61 ∷ 48 ∷ 48 ∷ 48 ∷ 48 ∷ 48 ∷ 48 ∷ 48 ∷ 48 ∷ 48 ∷ 48 ∷ 48 ∷ 48 ∷ 48 ∷ 48 ∷ 48 ∷ 48 ∷ 10 ∷
     -- wrms=0000000000000000
     119 ∷ 114 ∷ 109 ∷ 115 ∷ 61 ∷ 48 ∷ 48 ∷ 48 ∷ 48 ∷ 48 ∷ 48 ∷ 48 ∷ 48 ∷ 48 ∷ 48 ∷ 48 ∷ 48 ∷ 48 ∷ 48 ∷ 48 ∷ 48 ∷ 10 ∷ []
-unfolding recordOf textOf termLines decimalLine decimalOf decimalFrom floatLine hexFrom magnitudeOf ofBits toBits lt
+unfolding recordOf linesOf termSlots countTo textOf decimalLine decimalOf decimalFrom floatLine hexFrom magnitudeOf ofBits toBits lt
 whole = refl
 
 -- it needs 258 bytes, and one less is number 7
 fits : recordAnswer settled 258 ≡ recorded.Written 258
-unfolding recordOf textOf termLines decimalLine decimalOf decimalFrom floatLine hexFrom inputAnswer lengthsFit countTo isWcs isCd magnitudeOf ofBits toBits neg lt le eq
+unfolding recordOf linesOf termSlots countTo textOf decimalLine decimalOf decimalFrom floatLine hexFrom inputAnswer lengthsFit isWcs isCd
+    magnitudeOf ofBits toBits neg lt le eq
 fits = refl
 
 no-room : recordAnswer settled 257 ≡ recorded.Refused Room
-unfolding recordOf textOf termLines decimalLine decimalOf decimalFrom floatLine hexFrom inputAnswer lengthsFit countTo isWcs isCd magnitudeOf ofBits toBits neg lt le eq
+unfolding recordOf linesOf termSlots countTo textOf decimalLine decimalOf decimalFrom floatLine hexFrom inputAnswer lengthsFit isWcs isCd
+    magnitudeOf ofBits toBits neg lt le eq
 no-room = refl
 
 -- a line for an infinity, as "a_2_0=fff0000000000000", and none for NaN or 1e-20 itself

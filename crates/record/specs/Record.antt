@@ -1,4 +1,5 @@
 -- The answer of `write_record`, and the text that it writes. Definitions only.
+use mathlib.Core.Path.{_≡_}
 use mathlib.Core.Bool.{Bool, true, cond, not, _&&_}
 use mathlib.Core.List.{List, [], _∷_}
 use Prim.Native.Nat.{ℕ, _+_}
@@ -14,7 +15,8 @@ use Rattle.wcs.specs.declared.Wcs.{Wcs}
 use Rattle.wcs.specs.Wcs.{isWcs}
 use Rattle.sip_terms.specs.declared.Sip.{Sip}
 use Rattle.sip_terms.specs.Terms.{termCount, isKept}
-use Rattle.record_lines.specs.Lines.{Solution, recordOf, textOf}
+use Rattle.record_lines.specs.Lines.{Solution, textOf}
+use Rattle.record_lines.specs.Table.{recordOf}
 use Rattle.record.specs.declared.Recorded.{Recorded}
 use Rattle.record.specs.declared.Recorded.the-variants as recorded
 
@@ -42,6 +44,10 @@ inputAnswer fit wcs order a b =
     (cond (not (isWcs wcs)) (answer.Refused refusal.Value)
     (cond (not (isOrder order)) (answer.Refused refusal.Order)
     answer.Done)))
+
+-- a solution that passes them
+abbrev pub Passed : Solution → Type 0
+Passed s = inputAnswer (s .fit) (s .wcs) (s .order) (length (s .a)) (length (s .b)) ≡ answer.Done
 
 -- whether the record is written in so much room: those numbers and 7, or done
 abbrev pub recordDone : Solution → ℕ → Answer

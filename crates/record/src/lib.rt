@@ -10,7 +10,8 @@ ghost use Prim.Native.Nat.{_≤_};
 ghost use lib.ListN.{length};
 ghost use Rattle.answer.specs.Answers.{roomFor, lentAfter};
 ghost use Rattle.put.specs.Put.{Put, Room};
-ghost use Rattle.record.specs.Record.{solution, isOrder, lengthsFit, inputAnswer, lineSize, termsSize, recordSize, recordText, writtenAfter, recordDone, recordAnswer, recordedNumber};
+ghost use Rattle.record.specs.Record.{solution, isOrder, lengthsFit, inputAnswer, Passed, lineSize, termsSize, recordSize};
+ghost use Rattle.record.specs.Record.{recordText, writtenAfter, recordDone, recordAnswer, recordedNumber};
 
 // The most rows that a fit uses.
 pub const MOST_ROWS: usize = 100;
@@ -111,7 +112,8 @@ fn record_size(rows: usize, a: &[f64], b: &[f64]) -> usize
 
 // Writes a record that has the room.
 fn put_record(fit: Sip, wcs: Wcs, order: u32, a: &[f64], b: &[f64], text: &mut [u8]) -> usize
-    requires { ⌜ (length (now a) ≤ 18) × (length (now b) ≤ 18) × Room (now text) 0 (recordText (solution fit wcs order (now a) (now b))) ⌝ }
+    requires { ⌜ Passed (solution fit wcs order (now a) (now b))
+        × Room (now text) 0 (recordText (solution fit wcs order (now a) (now b))) ⌝ }
     ensures { λ r. ⌜ Put (now (text .entry)) 0 (recordText (solution fit wcs order (now (a .entry)) (now (b .entry)))) r (now (text .exit)) ⌝ }
 {
     let start = Head {
@@ -124,7 +126,7 @@ fn put_record(fit: Sip, wcs: Wcs, order: u32, a: &[f64], b: &[f64], text: &mut [
 
 // Writes the record of an input that passed its tests, where it has the room.
 fn write_checked(fit: Sip, wcs: Wcs, order: u32, a: &[f64], b: &[f64], text: &mut [u8]) -> Recorded
-    requires { ⌜ (length (now a) ≤ 18) × (length (now b) ≤ 18) × (order ≤ 5) ⌝ }
+    requires { ⌜ Passed (solution fit wcs order (now a) (now b)) ⌝ }
     ensures { λ r. ⌜ (r ≡ writtenAfter
         (roomFor (length (recordText (solution fit wcs order (now (a .entry)) (now (b .entry))))) (length (now (text .entry))))
         (length (recordText (solution fit wcs order (now (a .entry)) (now (b .entry))))))

@@ -12,8 +12,8 @@ use Rattle.sip_terms.specs.declared.Term.{Term}
 use Rattle.sip_terms.specs.Terms.{nextTerm, isKept}
 use Rattle.record_lines.specs.declared.Head.{Head}
 use Rattle.record_lines.specs.Names.{orderName, termName}
-use Rattle.record_lines.specs.Lines.{numberLine, withLine, termLines, textOf}
-use Rattle.record_lines.specs.Parts.{startLines, cdLines, headLines, keptLine}
+use Rattle.record_lines.specs.Lines.{numberLine, withLine, textOf}
+use Rattle.record_lines.specs.Parts.{startLines, cdLines, headLines, keptLine, termLines}
 
 -- the text of two lists of lines
 pub text-append : (xs ys : List (List ℕ)) → textOf (xs ++ ys) ≡ textOf xs ++ textOf ys

@@ -1,3 +1,4 @@
 pub mod Names
 pub mod Lines
 pub mod Parts
+pub mod Table

@@ -8,11 +8,11 @@ use Rattle.text.specs.Lines.{decimalLine}
 use Rattle.wcs.specs.declared.Wcs.{Wcs}
 use Rattle.sip_terms.specs.declared.Sip.{Sip}
 use Rattle.sip_terms.specs.declared.Term.{Term}
-use Rattle.sip_terms.specs.Terms.{firstTerm, isKept}
+use Rattle.sip_terms.specs.Terms.{firstTerm, nextTerm, isKept}
 use Rattle.record_lines.specs.declared.Head.{Head}
 use Rattle.record_lines.specs.declared.Axis.{Axis}
 use Rattle.record_lines.specs.Names.{formatName, rowsName, crpix1Name, crpix2Name, cd11Name, cd12Name, cd21Name, cd22Name, orderName, linearName, rmsName, wrmsName, termName}
-use Rattle.record_lines.specs.Lines.{numberLine, termLines}
+use Rattle.record_lines.specs.Lines.{numberLine, withLine}
 
 -- the form, the rows used, and the reference pixel
 unfoldable pub startLines : Head → List (List ℕ)
@@ -25,6 +25,11 @@ cdLines w = numberLine cd11Name (w .«cd1_1») ∷ numberLine cd12Name (w .«cd1
 -- the lines before the terms
 unfoldable pub headLines : Head → List (List ℕ)
 headLines h = startLines h ++ (cdLines (h .wcs) ++ (decimalLine orderName (h .order) ∷ []))
+
+-- the lines of the coefficients from a term on: one for each that is kept
+unfoldable pub termLines : ℕ → Term → List Float → List (List ℕ)
+termLines letter t [] = []
+termLines letter t (c ∷ cs) = withLine (isKept c) (numberLine (termName letter t) c) (termLines letter (nextTerm t) cs)
 
 -- the text of one coefficient: nothing where it is dropped
 unfoldable pub keptLine : ℕ → Term → Float → List ℕ

@@ -7,8 +7,8 @@ ghost use Prim.Native.Nat.{_+_, _<_, _≤_};
 ghost use lib.ListN.{length};
 ghost use Rattle.put.specs.Put.{Put, Room};
 ghost use Rattle.sip_terms.specs.Terms.{firstTerm};
-ghost use Rattle.record_lines.specs.Lines.{textOf, termLines};
-ghost use Rattle.record_lines.specs.Parts.{startLines, cdLines, headLines, keptLine, numbersOf, axisLines, errorLines};
+ghost use Rattle.record_lines.specs.Lines.{textOf};
+ghost use Rattle.record_lines.specs.Parts.{startLines, cdLines, headLines, keptLine, numbersOf, axisLines, errorLines, termLines};
 
 // The numbers of the lines before the terms.
 pub struct Head {

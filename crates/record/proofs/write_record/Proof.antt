@@ -1,6 +1,5 @@
--- `record::write_record` meets its contract: a refusal keeps the text, and an input that passed its tests is small. Assumes nothing.
+-- `record::write_record` meets its contract: a refusal keeps the text, and the room decides of an input that passed its tests. Assumes nothing.
 use mathlib.Core.Path.{refl, sym, _∙_}
-use Rattle.record.proofs.Laws.{checked}
 use borrow.Author.Needs.{needs}
 use Rattle.record.proofs.write_record.Statement.{statement}
 use Rattle.record.proofs.write_record.Tie as tie
@@ -15,7 +14,7 @@ enum-told : tie.Need-enum-told
 enum-told c = search needs
 
 write-checked-requires : tie.Need-write-checked-requires
-write-checked-requires c κs = let k = checked _ _ _ _ _ (sym (c .before .before .before .check-input .ensures) ∙ c .before .enum-told .given .1) in (k .few-a, k .few-b, k .low)
+write-checked-requires c κs = sym (c .before .before .before .check-input .ensures) ∙ c .before .enum-told .given .1
 
 returns : tie.Need-returns
 returns c = rw (← c .before .before .before .check-input .ensures, c .before .why .given .1) (refl, refl)

@@ -6,11 +6,12 @@ use Prim.Native.Nat.{_≤_, _-_}
 use mathlib.Core.Path.{_≡_}
 use Rattle.sip_terms.proofs.Places.{low-term, term-more}
 use Rattle.sip_terms.specs.Terms.{firstTerm, termAt}
-use Rattle.record_lines.specs.Lines.{textOf, termLines}
+use Rattle.record_lines.specs.Lines.{textOf}
 use Rattle.record_lines.proofs.Laws.{terms-more, terms-none}
 use Rattle.put.proofs.Writing.{Going, going-start, going-step, going-end, going-room, room-first, same-rest}
 use Rattle.record_lines.proofs.put_terms.Statement.{statement}
 use Rattle.record_lines.proofs.put_terms.Tie as tie
+use Rattle.record_lines.specs.Parts.{termLines}
 
 abbrev Inv-loop : tie.InvT-loop
 Inv-loop buf₀ at letter cs m₀ t₀ i₀ buf m t i = Going buf₀ at (textOf (termLines letter firstTerm cs)) buf m (textOf (termLines letter t (drop i cs))) × (t ≡ termAt i) × (i ≤ length cs)

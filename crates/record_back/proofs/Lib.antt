@@ -1,0 +1,10 @@
+pub mod Front
+pub mod Most
+pub mod Line
+pub mod Slots
+pub mod Table
+pub mod Tests
+pub mod Back
+pub mod Same
+pub mod First
+pub mod Only

@@ -1,0 +1,4 @@
+pub mod Shown
+pub mod Lines
+pub mod First
+pub mod Examples

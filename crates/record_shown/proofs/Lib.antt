@@ -1,4 +1,0 @@
-pub mod Front
-pub mod Terms
-pub mod Same
-pub mod Most
