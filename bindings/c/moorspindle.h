@@ -13,6 +13,7 @@
    ANSWERS. A call that returns uint32_t answers 0 when it is done, or refuses by the number of
    the first of these that holds, in this order:
 
+       10  a record that is read is not in its form
         1  a count is outside its limit
         2  lengths that belong together differ
         3  a value is outside its domain, as NaN and infinity always are; what takes every
@@ -27,7 +28,7 @@
         9  the CD draw ends with fewer than 3 rows on
 
    No input needs to be checked first. On a refusal nothing that was lent is changed, but for
-   the clip's number 8. When a call is done, places of an output past the result keep their old
+   the clip's number 8 and the line of number 10. When a call is done, places of an output past the result keep their old
    values: an output may always be longer than what it needs.
 
    DOMAIN. Lists of stars, detections, rows, votes and catalogue results have 0..100 members,
@@ -264,4 +265,18 @@ uint32_t moorspindle_fit_sip(const double *px, size_t px_len, const double *py, 
 uint32_t moorspindle_write_record(uint64_t rows_used, const double *wcs, size_t wcs_len, uint32_t order,
         const double *a, size_t a_len, const double *b, size_t b_len,
         const double *sums, size_t sums_len, uint8_t *text, size_t text_len, uint64_t *written);
+
+/* The solution that a record shows: each line as write_record puts it, in its order, and nothing
+   after the last. *format is the number of the format line, 1. A coefficient without a line is
+   0.0; a NaN is the one that was written. `wcs` needs 6, `a` and `b` a number for each term of
+   the order, of which there are at most 18, `sums` 3. Refuses with 10, which sets *line to the
+   number of the first wrong line, from 1, and changes nothing else: the first that cannot stand
+   there, some record beginning with the lines before it and none with those up to it. What ends
+   early is wrong at the line that is missing or has no newline, what goes on after the last line
+   at the number after it. Then with 7, which changes nothing. A call that is done leaves *line as
+   it was. */
+uint32_t moorspindle_read_record(const uint8_t *text, size_t text_len, uint32_t *format,
+        uint64_t *rows_used, double *wcs, size_t wcs_len, uint32_t *order,
+        double *a, size_t a_len, double *b, size_t b_len,
+        double *sums, size_t sums_len, uint64_t *line);
 #endif

@@ -2,10 +2,16 @@
 #include <math.h>
 #include <stdint.h>
 
-/* What the call writes into, and what must stand there afterwards. */
+/* What the calls write into, and what must stand there afterwards. */
 struct lent {
     uint8_t text[1100];
     uint64_t written;
+    uint32_t format;
+    uint64_t rows;
+    double wcs[7];
+    uint32_t order;
+    double a[4], b[4], sums[4];
+    uint64_t line;
 };
 
 #include "lent.h"
@@ -31,6 +37,10 @@ static const char record[] = "format=1\n"
 enum { SIZE = sizeof record - 1 };
 
 #define OUT(n) lent.text, n, &lent.written
+#define INTO(w, p, q, s)                                                                           \
+    &lent.format, &lent.rows, lent.wcs, w, &lent.order, lent.a, p, lent.b, q, lent.sums, s,        \
+            &lent.line
+#define TEXT(t) (const uint8_t *)(t)
 
 static void written(size_t room)
 {
@@ -40,8 +50,59 @@ static void written(size_t room)
     CALL(0, write_record, 6, wcs, 6, 2, a, 3, none, 3, sums, 3, OUT(room));
 }
 
+/* The solution of the record, into lists of their length or longer ones. */
+static void read_into(size_t w, size_t terms, size_t s)
+{
+    lend();
+    due.format = 1;
+    due.rows = 6;
+    memcpy(due.wcs, wcs, sizeof wcs);
+    due.order = 2;
+    due.a[0] = 0.5, due.a[1] = due.a[2] = 0;
+    due.b[0] = due.b[1] = due.b[2] = 0;
+    memcpy(due.sums, sums, sizeof sums);
+    CALL(0, read_record, TEXT(record), SIZE, INTO(w, terms, terms, s));
+}
+
+/* A text that is wrong at a line: nothing else than the line's number changes, room or not. */
+static void wrong_at(uint64_t line, const char *text, size_t size)
+{
+    lend();
+    due.line = line;
+    CALL(10, read_record, TEXT(text), size, INTO(6, 3, 3, 3));
+    CALL(10, read_record, TEXT(text), size, INTO(0, 0, 0, 0));
+}
+
+/* The record with one byte turned. */
+static void turned(uint64_t line, size_t at, char byte)
+{
+    char text[sizeof record];
+    memcpy(text, record, sizeof record);
+    text[at] = byte;
+    wrong_at(line, text, SIZE);
+}
+
+static void reads(void)
+{
+    read_into(6, 3, 3);
+    read_into(7, 4, 4);
+    REFUSED(7, read_record, TEXT(record), SIZE, INTO(5, 3, 3, 3));
+    REFUSED(7, read_record, TEXT(record), SIZE, INTO(6, 2, 3, 3));
+    REFUSED(7, read_record, TEXT(record), SIZE, INTO(6, 3, 2, 3));
+    REFUSED(7, read_record, TEXT(record), SIZE, INTO(6, 3, 3, 2));
+    wrong_at(1, NULL, 0);
+    wrong_at(13, record, SIZE - 1);                         /* no last newline */
+    wrong_at(14, record, sizeof record);                    /* a byte after the last line */
+    turned(1, 7, '2');                                      /* another format */
+    turned(5, strstr(record, "3ff") - record + 1, 'F');     /* an uppercase digit */
+    turned(9, strstr(record, "order=") - record + 6, '6');  /* an order above 5 */
+    turned(10, strstr(record, "3fe") - record, '0');        /* a coefficient that is dropped */
+    turned(11, strstr(record, "linear") - record, 'a');     /* a line that is none */
+}
+
 int main(void)
 {
+    reads();
     written(1100);
     written(SIZE); /* exactly full */
     REFUSED(7, write_record, 6, wcs, 6, 2, a, 3, none, 3, sums, 3, OUT(SIZE - 1));

@@ -332,4 +332,20 @@ unsafe extern "C" {
         text_len: usize,
         written: *mut u64,
     ) -> u32;
+    pub fn moorspindle_read_record(
+        text: *const u8,
+        text_len: usize,
+        format: *mut u32,
+        rows_used: *mut u64,
+        wcs: *mut f64,
+        wcs_len: usize,
+        order: *mut u32,
+        a: *mut f64,
+        a_len: usize,
+        b: *mut f64,
+        b_len: usize,
+        sums: *mut f64,
+        sums_len: usize,
+        line: *mut u64,
+    ) -> u32;
 }

@@ -38,6 +38,10 @@ impl Wcs {
     pub(crate) fn numbers(self) -> [f64; 6] {
         [self.crpix1, self.crpix2, self.cd1_1, self.cd1_2, self.cd2_1, self.cd2_2]
     }
+
+    pub(crate) fn of([crpix1, crpix2, cd1_1, cd1_2, cd2_1, cd2_2]: [f64; 6]) -> Wcs {
+        Wcs { crpix1, crpix2, cd1_1, cd1_2, cd2_1, cd2_2 }
+    }
 }
 
 /// A mask as the C face has it: a bool is a byte, 0 or 1, and nothing else is ever written.

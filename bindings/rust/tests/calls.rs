@@ -8,8 +8,8 @@ use moorspindle::matching::{
 };
 use moorspindle::plate::{self, Cd, Clip, Run, Wcs};
 use moorspindle::quad::{self, Quads, Star};
-use moorspindle::record::write_record;
-use moorspindle::sip::{fit_sip, terms};
+use moorspindle::record::{Solution, WrongLine, write_record};
+use moorspindle::sip::{Sip, fit_sip, terms};
 use moorspindle::{Refusal, Rows, floats};
 
 /// The corners of a square.
@@ -164,6 +164,36 @@ fn sip_and_record() {
     assert!(text.contains("\norder=2\na_2_0=3fe0000000000000\nlinear_rms=3fe0000000000000\n"));
     assert_eq!(fit_sip(rows, &[1.0; 6], WCS, 3), Err(Refusal::Rows));
     assert_eq!(fit_sip(rows, &[1.0; 6], WCS, 6), Err(Refusal::Order));
+}
+
+#[test]
+fn record_read_back() {
+    let sip = Sip {
+        order: 3,
+        a: vec![0.5, 0.0, f64::INFINITY, 0.0, 0.0, -2.0, 0.0],
+        b: vec![0.0, 1e-300, 0.0, f64::NAN, 0.0, 0.0, 3.25],
+        rows_used: 42,
+        linear_rms: 0.5,
+        rms: -0.0,
+        wrms: 5e-324,
+    };
+    let text = Solution { sip: sip.clone(), wcs: WCS }.write().unwrap();
+    let (solution, format) = Solution::read_format(&text).unwrap();
+    // of the second axis the NaN and 1e-300 are dropped
+    let kept = Sip { b: vec![0.0, 0.0, 0.0, 0.0, 0.0, 0.0, 3.25], ..sip };
+    assert_eq!((&solution, format), (&Solution { sip: kept, wcs: WCS }, 1));
+    assert!(solution.sip.rms.is_sign_negative());
+    assert_eq!(solution.to_bytes(), Ok(text.clone().into_bytes()));
+    assert_eq!(Solution::read(text.as_bytes()), Ok(solution));
+
+    let wrong = |text: &str| Solution::read(text).unwrap_err().line;
+    assert_eq!(wrong(""), 1);
+    assert_eq!(wrong(&text.replace("rows=42", "rows=101")), 2);
+    assert_eq!(wrong(&text.replace("crpix1=000", "crpix1=7ff")), 3);
+    assert_eq!(wrong(&text.replace("b_0_3=", "b_0_4=")), 13);
+    assert_eq!(wrong(text.trim_end()), 16);
+    assert_eq!(wrong(&(text.clone() + "\n")), 17);
+    assert_eq!(WrongLine { line: 7 }.to_string(), "line 7 of the record is wrong");
 }
 
 #[test]

@@ -26,6 +26,7 @@ ghost use Rattle.cd_clip.specs.Clip.{clipNumber};
 ghost use Rattle.clip_face.specs.Face.{plateAfter, clipFace};
 ghost use Rattle.record.specs.Record.{recordText};
 ghost use Rattle.record_face.specs.Face.{solutionIn, recordFace};
+ghost use Rattle.record_face.specs.Read.{lent, RecordRead};
 ghost use Rattle.cd_fit.specs.Fit.{fitAnswer};
 ghost use Rattle.cd_normal.specs.Normal.{normalSolved, unknownsOf, normalAnswer};
 ghost use Rattle.cd_residuals.specs.Residuals.{residualsX, residualsY, residualsPx, foundOf};
@@ -655,4 +656,26 @@ pub extern "C" fn moorspindle_write_record(
         (now (written .entry)) ⌝ }
 {
     record_face::write_record(rows_used, wcs, order, a, b, sums, text, written)
+}
+
+// The solution that a record shows, and the number of its format; or the number of its first wrong line.
+#[no_mangle]
+pub extern "C" fn moorspindle_read_record(
+    text: &[u8],
+    format: &mut u32,
+    rows_used: &mut u64,
+    wcs: &mut [f64],
+    order: &mut u32,
+    a: &mut [f64],
+    b: &mut [f64],
+    sums: &mut [f64],
+    line: &mut u64,
+) -> u32
+    ensures { λ r. ⌜ RecordRead (now (text .entry))
+        (lent (now (format .entry)) (now («rows_used» .entry)) (now (wcs .entry)) (now (order .entry))
+        (now (a .entry)) (now (b .entry)) (now (sums .entry)) (now (line .entry))) r
+        (lent (now (format .exit)) (now («rows_used» .exit)) (now (wcs .exit)) (now (order .exit))
+        (now (a .exit)) (now (b .exit)) (now (sums .exit)) (now (line .exit))) ⌝ }
+{
+    record_face::read_record(text, format, rows_used, wcs, order, a, b, sums, line)
 }
