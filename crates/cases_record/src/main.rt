@@ -1,8 +1,9 @@
 // Replays cases of the record: a case a line on standard input, its answer a line on standard output,
 // in the form of oracle/README.md. A lent output starts filled with the byte a5, as there.
-use libc::STDIN_FILENO;
 use libc::STDOUT_FILENO;
 use scan::Place;
+
+// ---- write_record
 
 fn call_record(
     rows_used: u64,
@@ -45,6 +46,57 @@ fn write_record(s: &[u8], at: usize) {
     );
 }
 
+// ---- read_record
+
+fn call_read(text: &[u8], wcs: &mut [f64], a: &mut [f64], b: &mut [f64], sums: &mut [f64]) {
+    let mut format = 0xa5a5a5a5u32;
+    let mut rows_used = 0xa5a5a5a5a5a5a5a5u64;
+    let mut order = 0xa5a5a5a5u32;
+    let mut line = 0xa5a5a5a5a5a5a5a5u64;
+    let number = record_face::read_record(
+        text,
+        &mut format,
+        &mut rows_used,
+        wcs,
+        &mut order,
+        a,
+        b,
+        sums,
+        &mut line,
+    );
+    cases::print_number(number as u64);
+    cases::print_field(format as u64);
+    cases::print_field(rows_used);
+    cases::print_floats(wcs);
+    cases::print_field(order as u64);
+    cases::print_floats(a);
+    cases::print_floats(b);
+    cases::print_floats(sums);
+    cases::print_field(line);
+    cases::print_end();
+}
+
+fn read_record(s: &[u8], at: usize) {
+    let pattern = scan_digits::of_bits(0xa5a5a5a5a5a5a5a5);
+    let mut text = [0u8; 2048];
+    let mut wcs = [pattern; 32];
+    let mut a = [pattern; 64];
+    let mut b = [pattern; 64];
+    let mut sums = [pattern; 32];
+    let n = cases::bytes_at(s, at, &mut text);
+    let w = cases::floats_room(s, cases::field(s, at, 1), &wcs);
+    let p = cases::floats_room(s, cases::field(s, at, 2), &a);
+    let q = cases::floats_room(s, cases::field(s, at, 3), &b);
+    let r = cases::floats_room(s, cases::field(s, at, 4), &sums);
+    call_read(
+        &text[..n],
+        &mut wcs[..w],
+        &mut a[..p],
+        &mut b[..q],
+        &mut sums[..r],
+    );
+}
+
 // ---- lines
 
 // Answers the case that starts at a place; a line that is no case has the answer "?".
@@ -53,24 +105,21 @@ fn answer(s: &[u8], at: usize) {
         write_record(s, p);
         return;
     }
+    if let Place::Next(p) = scan::read_bytes(s, at, b"read_record ") {
+        read_record(s, p);
+        return;
+    }
     io::write_all(STDOUT_FILENO, b"?\n");
 }
 
-// Answers each line.
-fn answer_all(s: &[u8]) {
-    let mut at = 0;
-    while at < s.len() {
-        answer(s, at);
-        let end = scan::line_end(s, at);
-        if s.len() <= end {
+// Answers each line, of so many at most.
+fn main() {
+    let mut line = [0u8; 16384];
+    for _ in 0..100000usize {
+        let n = cases::read_line(&mut line);
+        if n == 0 {
             return;
         }
-        at = end + 1;
+        answer(&line[..n], 0);
     }
-}
-
-fn main() {
-    let mut cases = [0u8; 524288];
-    let n = io::read_full(STDIN_FILENO, &mut cases);
-    answer_all(&cases[..n]);
 }

@@ -205,7 +205,7 @@ mod tests {
         let (mut calls, mut declared): (Vec<_>, _) = (calls.collect(), declared());
         calls.sort_unstable();
         declared.sort_unstable();
-        assert_eq!(declared.len(), 30);
+        assert_eq!(declared.len(), 31);
         assert_eq!(calls, declared);
         for name in declared {
             assert!(rows.iter().any(|row| row.of == Some(name)), "{name} is not timed");

@@ -9,6 +9,7 @@ mod floats;
 mod index;
 mod matching;
 mod quad;
+mod reader;
 mod record;
 mod run;
 pub mod sip;

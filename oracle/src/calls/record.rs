@@ -3,6 +3,7 @@
 //! What is lent to be written starts filled with a pattern, and an answer holds it whole, so that a
 //! place that was not to be written shows when it was.
 
+use super::reader::{READ_RECORD, REAL_READS};
 use super::sip::camera;
 use super::{Call, Group};
 use crate::case::{Answer, Case, Kind};
@@ -14,8 +15,8 @@ use crate::{bench, edges, ours, theirs};
 pub const GROUP: Group = Group {
     name: "record",
     title: "The record",
-    calls: &[WRITE_RECORD],
-    also: &[REAL_FITS],
+    calls: &[WRITE_RECORD, READ_RECORD],
+    also: &[REAL_FITS, REAL_READS],
     notes: |_| Vec::new(),
     bench: bench::record::rows,
     tables: |_| Vec::new(),
@@ -23,7 +24,7 @@ pub const GROUP: Group = Group {
 
 /// What a lent output holds before the call.
 const BYTE: u8 = 0xa5;
-const WORD: u64 = 0xa5a5_a5a5_a5a5_a5a5;
+pub const WORD: u64 = 0xa5a5_a5a5_a5a5_a5a5;
 
 /// The bytes of the longest record.
 const MOST: usize = 1065;
@@ -135,18 +136,18 @@ const REAL_FITS: Call = Call {
 };
 
 /// A solution by value.
-struct Given {
-    rows: u64,
-    wcs: Vec<f64>,
-    order: u32,
-    a: Vec<f64>,
-    b: Vec<f64>,
-    sums: Vec<f64>,
+pub struct Given {
+    pub rows: u64,
+    pub wcs: Vec<f64>,
+    pub order: u32,
+    pub a: Vec<f64>,
+    pub b: Vec<f64>,
+    pub sums: Vec<f64>,
 }
 
 impl Given {
     /// The solution of the scope's record.
-    fn settled() -> Given {
+    pub fn settled() -> Given {
         Given {
             rows: 6,
             wcs: vec![0.0, 0.0, 1.0, 0.0, 0.0, 1.0],
@@ -162,11 +163,16 @@ impl Given {
         start.floats(&self.a).floats(&self.b).floats(&self.sums).number(room as u64)
     }
 
-    /// The bytes of its record, or none where it has none.
-    fn length(&self) -> usize {
+    /// Its record, empty where it has none.
+    pub fn text(&self) -> Vec<u8> {
         let (mut text, mut written) = (vec![0; MOST], 0);
         theirs::record::write_record(self.lent(), &mut text, &mut written);
-        written as usize
+        text.truncate(written as usize);
+        text
+    }
+
+    fn length(&self) -> usize {
+        self.text().len()
     }
 
     /// The buffer exactly full, one byte short, and a few bytes over.
@@ -187,11 +193,11 @@ impl Given {
     }
 }
 
-fn terms(order: u32) -> usize {
+pub fn terms(order: u32) -> usize {
     (2..=order as usize).map(|total| total + 1).sum()
 }
 
-fn random_solution(random: &mut Random) -> Given {
+pub fn random_solution(random: &mut Random) -> Given {
     let rows = match random.below(20) {
         0 => random.one_of(&[101, 1000, 4_294_967_295]),
         _ => random.below(101),
@@ -221,7 +227,7 @@ fn random_solution(random: &mut Random) -> Given {
 }
 
 /// What a SIP fit hands out, of the first field that can be fitted.
-fn real_fit(random: &mut Random) -> Given {
+pub fn real_fit(random: &mut Random) -> Given {
     loop {
         let order = 2 + random.below(4) as u32;
         let n = 20 + random.below(81) as usize;

@@ -34,3 +34,37 @@ pub fn write_record(of: Solution, text: &mut [u8], written: &mut u64) -> u32 {
         )
     })
 }
+
+/// What a record is read into.
+pub struct Lent<'a> {
+    pub format: u32,
+    pub rows_used: u64,
+    pub wcs: &'a mut [f64],
+    pub order: u32,
+    pub a: &'a mut [f64],
+    pub b: &'a mut [f64],
+    pub sums: &'a mut [f64],
+    /// The number of the first wrong line.
+    pub line: u64,
+}
+
+pub fn read_record(text: &[u8], lent: &mut Lent) -> u32 {
+    called(|| unsafe {
+        moorspindle_read_record(
+            text.as_ptr(),
+            text.len(),
+            &mut lent.format,
+            &mut lent.rows_used,
+            lent.wcs.as_mut_ptr(),
+            lent.wcs.len(),
+            &mut lent.order,
+            lent.a.as_mut_ptr(),
+            lent.a.len(),
+            lent.b.as_mut_ptr(),
+            lent.b.len(),
+            lent.sums.as_mut_ptr(),
+            lent.sums.len(),
+            &mut lent.line,
+        )
+    })
+}

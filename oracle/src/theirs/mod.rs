@@ -1,6 +1,6 @@
 //! The Rust behind Moorspindle's signatures. The Rust refuses nothing here, so the refusals are
-//! written out, in the order of their numbers, 11 after 4; past them the answer is the Rust's own, put into
-//! what was lent.
+//! written out, in the order of their numbers, 10 before all and 11 after 4; past them the answer is the
+//! Rust's own, put into what was lent.
 
 pub mod cd;
 pub mod matching;
@@ -22,6 +22,7 @@ const ROWS: u32 = 6;
 const ROOM: u32 = 7;
 const DEGENERATE: u32 = 8;
 const FEW: u32 = 9;
+const FORM: u32 = 10;
 const INDEX: u32 = 11;
 
 fn refuse(number: u32, when: bool) -> Tested<()> {
