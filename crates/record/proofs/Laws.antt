@@ -1,12 +1,12 @@
 -- Laws of the record: its parts are its lines, and its size. Assumes nothing.
 use mathlib.Core.Path.{_≡_, refl, sym, ap, _∙_}
 use mathlib.Core.Bool.{Bool, true, false, cond, not, _&&_, and-eq-true-iff}
-use mathlib.Core.List.{List, [], _∷_, _++_}
+use mathlib.Core.List.{List, [], _∷_, _++_, map}
 use Prim.Native.Nat.{ℕ, _+_, _≤_, _<_}
 use native.Mathlib.Numerals.{add-one}
 use native.Mathlib.Omega.{arith}
 use lib.Dec.{ltb, leb, eqb}
-use lib.ListN.{length, getD, drop, length-append, drop-of-length-le}
+use lib.ListN.{length, getD, drop, length-append, length-map, drop-of-length-le}
 use lib.Seq.{drop-cons}
 use lib.Ieee.{Float, toBits, binary64}
 use borrow.Author.Tests.{ltb-false, leb-true, eqb-true, not-false}
@@ -26,16 +26,20 @@ use Rattle.sip_terms.specs.declared.Sip.{Sip}
 use Rattle.sip_terms.specs.declared.Term.{Term}
 use Rattle.sip_terms.specs.Terms.{firstTerm, nextTerm, isKept, termCount}
 use Rattle.sip_terms.proofs.Places.{few-terms}
+use Rattle.record_format.specs.declared.Format.{Format}
+use Rattle.record_format.specs.Formats.{formatOf, heldBy}
+use Rattle.record_format.proofs.Laws.{held-kept}
 use Rattle.record_lines.specs.declared.Head.{Head}
 use Rattle.record_lines.specs.declared.Axis.{Axis}
 use Rattle.record_lines.specs.Names.{aLetter, bLetter, termName}
 use Rattle.record_lines.specs.Lines.{Solution, numberLine, withLine, textOf}
 use Rattle.record_lines.specs.Parts.{startLines, cdLines, headLines, termLines, numbersOf, axisLines, errorLines}
+use Rattle.record_lines.specs.Table.{heldAs}
 use Rattle.record_lines.proofs.Laws.{text-append}
 use Rattle.record_lines.proofs.Table.{headIn, record-parts}
 use Rattle.record_writer.specs.Wrote.{partsText}
 use Rattle.record.specs.declared.Recorded.the-variants as recorded
-use Rattle.record.specs.Record.{writtenAfter, recordText, isOrder, lengthsFit, inputAnswer, Passed, lineSize, termsSize, recordSize}
+use Rattle.record.specs.Record.{writtenAfter, textAs, isOrder, lengthsFit, inputAnswer, Passed, lineSize, termsSize, recordSize}
 
 -- ---- an input that passed its tests
 
@@ -73,13 +77,18 @@ checked fit wcs order a b e =
 
 -- ---- the parts of a record, one after the other, are its lines
 
-pub parts-record : (s : Solution) (h : Head) (x y : Axis) → length (s .a) ≡ termCount (s .order) → length (s .b) ≡ termCount (s .order) → h ≡ headIn s → x .letter ≡ aLetter → numbersOf x ≡ s .a → y .letter ≡ bLetter → numbersOf y ≡ s .b
-    → partsText h x y (s .fit) ≡ recordText s
+-- a line holds a number for each coefficient
+pub held-length : (f : Format) (cs : List Float) (n : ℕ) → length cs ≡ n → length (map (heldBy f) cs) ≡ n
+held-length f cs n e = length-map cs (heldBy f) ∙ e
+
+pub parts-record : (number : ℕ) (s : Solution) (h : Head) (x y : Axis) → length (s .a) ≡ termCount (s .order) → length (s .b) ≡ termCount (s .order) → h ≡ headIn number s → x .letter ≡ aLetter → numbersOf x ≡ map (heldBy (formatOf number)) (s .a) → y .letter ≡ bLetter → numbersOf y ≡ map (heldBy (formatOf number)) (s .b)
+    → partsText h x y (s .fit) ≡ textAs number s
 unfolding partsText axisLines
-parts-record s h x y ea eb e l n m k =
-    let A = termLines aLetter firstTerm (s .a) in
-    let B = termLines bLetter firstTerm (s .b) in
-    rw (e, l, n, m, k, record-parts s ea eb, text-append (headLines (headIn s)) (A ++ (B ++ errorLines (s .fit))), text-append A (B ++ errorLines (s .fit)), text-append B (errorLines (s .fit)))
+parts-record number s h x y ea eb e l n m k =
+    let f = formatOf number in
+    let A = termLines aLetter firstTerm (map (heldBy f) (s .a)) in
+    let B = termLines bLetter firstTerm (map (heldBy f) (s .b)) in
+    rw (e, l, n, m, k, record-parts number (heldAs f s) (held-length f (s .a) (termCount (s .order)) ea) (held-length f (s .b) (termCount (s .order)) eb), text-append (headLines (headIn number s)) (A ++ (B ++ errorLines (s .fit))), text-append A (B ++ errorLines (s .fit)), text-append B (errorLines (s .fit)))
 
 -- ---- sizes
 
@@ -95,6 +104,12 @@ unfolding termLines termsSize textOf
 terms-size letter t [] = refl
 terms-size letter t (c ∷ cs) = rw (with-size letter t (isKept c) c (termLines letter (nextTerm t) cs), terms-size letter (nextTerm t) cs)
 
+-- turned ones have as many
+held-size : (f : Format) (cs : List Float) → termsSize (map (heldBy f) cs) ≡ termsSize cs
+unfolding termsSize
+held-size f [] = refl
+held-size f (c ∷ cs) = rw (held-kept f c, held-size f cs)
+
 -- a coefficient is left
 pub size-more : (cs : List Float) (i : ℕ) (d : Float) → i < length cs → termsSize (drop i cs) ≡ lineSize (getD cs i d) + termsSize (drop (i + 1) cs)
 unfolding termsSize
@@ -106,34 +121,37 @@ unfolding termsSize
 size-none cs i h = rw (drop-of-length-le cs {i = i} h)
 
 -- the bytes of the lines before the terms
-pub head-size : (h : Head) → h .order < 10 → length (textOf (headLines h)) ≡ 163 + length (decimalOf (h .rows))
+pub head-size : (h : Head) → h .format < 10 → h .order < 10 → length (textOf (headLines h)) ≡ 163 + length (decimalOf (h .rows))
 unfolding headLines startLines cdLines textOf
-head-size h o =
+head-size h f o =
     simp (length-append, length-float-line, length-decimal-line)
-    (omega (arith, length-decimal-one 1 (omega arith), length-decimal-one (h .order) o))
+    (omega (arith, length-decimal-one (h .format) f, length-decimal-one (h .order) o))
 
 -- the bytes of the errors
 pub errors-size : (f : Sip) → length (textOf (errorLines f)) ≡ 71
 unfolding errorLines textOf
 errors-size f = simp (length-append, length-float-line) (omega arith)
 
--- the bytes of a record
-pub record-size : (s : Solution) → Passed s → length (recordText s) ≡ recordSize (s .fit .«rows_used») (s .a) (s .b)
-record-size s p =
+-- the bytes of a record, whatever its format
+pub record-size : (number : ℕ) (s : Solution) → number < 10 → Passed s → length (textAs number s) ≡ recordSize (s .fit .«rows_used») (s .a) (s .b)
+record-size number s few p =
     let k = checked (s .fit) (s .wcs) (s .order) (length (s .a)) (length (s .b)) p in
-    let h : Head = headIn s in
-    let A = termLines aLetter firstTerm (s .a) in
-    let B = termLines bLetter firstTerm (s .b) in
+    let f = formatOf number in
+    let h : Head = headIn number s in
+    let A = termLines aLetter firstTerm (map (heldBy f) (s .a)) in
+    let B = termLines bLetter firstTerm (map (heldBy f) (s .b)) in
     let E = errorLines (s .fit) in
-    rw (record-parts s (k .a-is) (k .b-is), text-append (headLines h) (A ++ (B ++ E)), text-append A (B ++ E), text-append B E)
+    rw (record-parts number (heldAs f s) (held-length f (s .a) (termCount (s .order)) (k .a-is)) (held-length f (s .b) (termCount (s .order)) (k .b-is)), text-append (headLines h) (A ++ (B ++ E)), text-append A (B ++ E), text-append B E)
     (omega (
       arith,
       length-append (textOf (headLines h)) (textOf A ++ (textOf B ++ textOf E)),
       length-append (textOf A) (textOf B ++ textOf E),
       length-append (textOf B) (textOf E),
-      head-size h (omega (arith, k .low)),
-      terms-size aLetter firstTerm (s .a),
-      terms-size bLetter firstTerm (s .b),
+      head-size h few (omega (arith, k .low)),
+      terms-size aLetter firstTerm (map (heldBy f) (s .a)),
+      terms-size bLetter firstTerm (map (heldBy f) (s .b)),
+      held-size f (s .a),
+      held-size f (s .b),
       errors-size (s .fit),
     ))
 

@@ -15,7 +15,8 @@ use Rattle.sip_terms.specs.declared.Sip.{Sip}
 use Rattle.sip_terms.specs.Terms.{countTo, leastCoefficient}
 use Rattle.record_lines.specs.Lines.{Solution, textOf}
 use Rattle.record_lines.specs.Parts.{termLines}
-use Rattle.record_lines.specs.Table.{termSlots, linesOf, recordOf}
+use Rattle.record_format.specs.Formats.{formatOf}
+use Rattle.record_lines.specs.Table.{termSlots, linesOf, linesAs}
 use Rattle.record.specs.declared.Recorded.the-variants as recorded
 use Rattle.record.specs.Record.{recordText, lengthsFit, inputAnswer, recordAnswer}
 
@@ -39,8 +40,8 @@ settled = record { fit = fitted 6; wcs = unit nothing; order = 2; a = half ∷ n
 
 -- the whole record, byte for byte
 whole : recordText settled ≡
-    -- format=1
-    102 ∷ 111 ∷ 114 ∷ 109 ∷ 97 ∷ 116 ∷ 61 ∷ 49 ∷ 10 ∷
+    -- format=2
+    102 ∷ 111 ∷ 114 ∷ 109 ∷ 97 ∷ 116 ∷ 61 ∷ 50 ∷ 10 ∷
     -- rows=6
     114 ∷ 111 ∷ 119 ∷ 115 ∷ 61 ∷ 54 ∷ 10 ∷
     -- crpix1=0000000000000000
@@ -57,26 +58,28 @@ whole : recordText settled ≡
     99 ∷ 100 ∷ 50 ∷ 95 ∷ 50 ∷ 61 ∷ 51 ∷ 102 ∷ 102 ∷ 48 ∷ 48 ∷ 48 ∷ 48 ∷ 48 ∷ 48 ∷ 48 ∷ 48 ∷ 48 ∷ 48 ∷ 48 ∷ 48 ∷ 48 ∷ 10 ∷
     -- order=2
     111 ∷ 114 ∷ 100 ∷ 101 ∷ 114 ∷ 61 ∷ 50 ∷ 10 ∷
-    -- a_2_0=3fe0000000000000
-    97 ∷ 95 ∷ 50 ∷ 95 ∷ 48 ∷ 61 ∷ 51 ∷ 102 ∷ 101 ∷ 48 ∷ 48 ∷ 48 ∷ 48 ∷ 48 ∷ 48 ∷ 48 ∷ 48 ∷ 48 ∷ 48 ∷ 48 ∷ 48 ∷ 48 ∷ 10 ∷
+    -- a_2_0=bfe0000000000000
+    97 ∷ 95 ∷ 50 ∷ 95 ∷ 48 ∷ 61 ∷ 98 ∷ 102 ∷ 101 ∷ 48 ∷ 48 ∷ 48 ∷ 48 ∷ 48 ∷ 48 ∷ 48 ∷ 48 ∷ 48 ∷ 48 ∷ 48 ∷ 48 ∷ 48 ∷ 10 ∷
     -- linear_rms=3fe0000000000000
-    108 ∷ 105 ∷ 110 ∷ 101 ∷ 97 ∷ 114 ∷ 95 ∷ 114 ∷ 109 ∷ 115 ∷ 61 ∷ 51 ∷ 102 ∷ 101 ∷ 48 ∷ 48 ∷ 48 ∷ 48 ∷ 48 ∷ 48 ∷ 48 ∷ 48 ∷ 48 ∷ 48 ∷ 48 ∷ 48 ∷ 48 ∷ 10 ∷
+    108 ∷ 105 ∷ 110 ∷ 101 ∷ 97 ∷ 114 ∷ 95 ∷ 114 ∷ 109 ∷ 115 ∷ 61 ∷
+    51 ∷ 102 ∷ 101 ∷ 48 ∷ 48 ∷ 48 ∷ 48 ∷ 48 ∷ 48 ∷ 48 ∷ 48 ∷ 48 ∷ 48 ∷ 48 ∷ 48 ∷ 48 ∷ 10 ∷
     -- rms=0000000000000000
     114 ∷ 109 ∷ 115 ∷ 61 ∷ 48 ∷ 48 ∷ 48 ∷ 48 ∷ 48 ∷ 48 ∷ 48 ∷ 48 ∷ 48 ∷ 48 ∷ 48 ∷ 48 ∷ 48 ∷ 48 ∷ 48 ∷ 48 ∷ 10 ∷
     -- wrms=0000000000000000
     119 ∷ 114 ∷ 109 ∷ 115 ∷ 61 ∷ 48 ∷ 48 ∷ 48 ∷ 48 ∷ 48 ∷ 48 ∷ 48 ∷ 48 ∷ 48 ∷ 48 ∷ 48 ∷ 48 ∷ 48 ∷ 48 ∷ 48 ∷ 48 ∷ 10 ∷ []
-unfolding recordOf linesOf termSlots countTo textOf decimalLine decimalOf decimalFrom floatLine hexFrom magnitudeOf ofBits toBits lt
+unfolding linesAs linesOf formatOf termSlots countTo textOf decimalLine decimalOf decimalFrom floatLine hexFrom
+    magnitudeOf ofBits toBits neg lt
 whole = refl
 
 -- it needs 258 bytes, and one less is number 7
 fits : recordAnswer settled 258 ≡ recorded.Written 258
-unfolding recordOf linesOf termSlots countTo textOf decimalLine decimalOf decimalFrom floatLine hexFrom inputAnswer lengthsFit isWcs isCd
-    magnitudeOf ofBits toBits neg lt le eq
+unfolding linesAs linesOf formatOf termSlots countTo textOf decimalLine decimalOf decimalFrom floatLine hexFrom
+    inputAnswer lengthsFit isWcs isCd magnitudeOf ofBits toBits neg lt le eq
 fits = refl
 
 no-room : recordAnswer settled 257 ≡ recorded.Refused Room
-unfolding recordOf linesOf termSlots countTo textOf decimalLine decimalOf decimalFrom floatLine hexFrom inputAnswer lengthsFit isWcs isCd
-    magnitudeOf ofBits toBits neg lt le eq
+unfolding linesAs linesOf formatOf termSlots countTo textOf decimalLine decimalOf decimalFrom floatLine hexFrom
+    inputAnswer lengthsFit isWcs isCd magnitudeOf ofBits toBits neg lt le eq
 no-room = refl
 
 -- a line for an infinity, as "a_2_0=fff0000000000000", and none for NaN or 1e-20 itself

@@ -16,7 +16,7 @@ use Rattle.wcs.specs.Wcs.{isWcs}
 use Rattle.sip_terms.specs.declared.Sip.{Sip}
 use Rattle.sip_terms.specs.Terms.{termCount, isKept}
 use Rattle.record_lines.specs.Lines.{Solution, textOf}
-use Rattle.record_lines.specs.Table.{recordOf}
+use Rattle.record_lines.specs.Table.{recordAs, recordOf}
 use Rattle.record.specs.declared.Recorded.{Recorded}
 use Rattle.record.specs.declared.Recorded.the-variants as recorded
 
@@ -24,7 +24,11 @@ use Rattle.record.specs.declared.Recorded.the-variants as recorded
 abbrev pub solution : Sip → Wcs → ℕ → List Float → List Float → Solution
 solution fit wcs order a b = record { fit = fit; wcs = wcs; order = order; a = a; b = b }
 
--- the text of a record
+-- the text of a record in a format
+abbrev pub textAs : ℕ → Solution → List ℕ
+textAs number s = textOf (recordAs number s)
+
+-- the text that is written
 abbrev pub recordText : Solution → List ℕ
 recordText s = textOf (recordOf s)
 

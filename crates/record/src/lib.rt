@@ -1,6 +1,7 @@
 // `write_record`: the record of a solution, written into lent bytes.
 use answer::Answer;
 use answer::Refusal;
+use record_format::Format;
 use record_lines::Axis;
 use record_lines::Head;
 use sip_terms::Sip;
@@ -114,14 +115,18 @@ fn record_size(rows: usize, a: &[f64], b: &[f64]) -> usize
 fn put_record(fit: Sip, wcs: Wcs, order: u32, a: &[f64], b: &[f64], text: &mut [u8]) -> usize
     requires { ⌜ Passed (solution fit wcs order (now a) (now b))
         × Room (now text) 0 (recordText (solution fit wcs order (now a) (now b))) ⌝ }
-    ensures { λ r. ⌜ Put (now (text .entry)) 0 (recordText (solution fit wcs order (now (a .entry)) (now (b .entry)))) r (now (text .exit)) ⌝ }
+    ensures { λ r. ⌜ Put (now (text .entry)) 0
+        (recordText (solution fit wcs order (now (a .entry)) (now (b .entry)))) r (now (text .exit)) ⌝ }
 {
     let start = Head {
+        format: Format::NEWEST,
         rows: fit.rows_used,
         wcs,
         order,
     };
-    record_writer::write_lines(text, start, Axis::of(b'a', a), Axis::of(b'b', b), fit)
+    let first = Axis::of(Format::NEWEST, b'a', a);
+    let second = Axis::of(Format::NEWEST, b'b', b);
+    record_writer::write_lines(text, start, first, second, fit)
 }
 
 // Writes the record of an input that passed its tests, where it has the room.
@@ -141,8 +146,8 @@ fn write_checked(fit: Sip, wcs: Wcs, order: u32, a: &[f64], b: &[f64], text: &mu
     }
 }
 
-// Writes the record of a solution from the front of the text: what a fit hands back, the WCS that it stands on, its order
-// and its coefficients, one for each term, dropped ones included.
+// Writes the record of a solution, in the newest format, from the front of the text: what a fit hands back, the WCS that it
+// stands on, its order and its coefficients as they were solved, one for each term, dropped ones included.
 pub fn write_record(
     fit: Sip,
     wcs: Wcs,

@@ -4,7 +4,9 @@ pub mod Line
 pub mod Slots
 pub mod Table
 pub mod Tests
+pub mod Held
 pub mod Back
 pub mod Same
 pub mod First
 pub mod Only
+pub mod Formats

@@ -25,7 +25,7 @@ never b t f = let z : true ≡ false = sym t ∙ f in let w : _≡_ {A = ℕ} 0 
 and-false : (a b : Bool) → a ≡ false → (a && b) ≡ false
 and-false a b e = rw e
 
-false-and : (a b : Bool) → b ≡ false → (a && b) ≡ false
+pub false-and : (a b : Bool) → b ≡ false → (a && b) ≡ false
 false-and true b e = e
 false-and false b e = refl
 

@@ -1,9 +1,11 @@
 -- The table of a record: its slots have their blanks and names of their own, and its lines are those of the record. Assumes nothing.
 use mathlib.Core.Path.{_≡_, refl, sym, ap, _∙_}
-use mathlib.Core.Bool.{Bool, true, false, cond}
+use mathlib.Core.Bool.{Bool, true, false, cond, _&&_}
 use mathlib.Core.List.{List, [], _∷_, _++_, map}
-use Prim.Native.Nat.{ℕ, zero, suc, _+_, _^_, _<_}
+use Prim.Native.Nat.{ℕ, zero, suc, _+_, _^_, _≤_, _<_}
 use native.Mathlib.Omega.{arith}
+use borrow.Author.Tests.{le-leb}
+use lib.Dec.{leb, eqb}
 use lib.ListN.{length, getD}
 use lib.Ieee.{Float, binary64, ofBits, toBits, neg, lt, le, eq}
 use lib.Ieee.Bits.{ofBits-toBits, toBits-lt}
@@ -11,9 +13,12 @@ use Rattle.floats.specs.Magnitude.{magnitudeOf}
 use Rattle.sip_terms.specs.declared.Term.{Term}
 use Rattle.sip_terms.specs.Terms.{firstTerm, nextTerm, termAt, isKept}
 use Rattle.sip_terms.proofs.Places.{stands}
+use Rattle.record_format.specs.declared.Format.{Format}
+use Rattle.record_format.specs.Formats.{formatOne, formatTwo, formatOf}
+use Rattle.record_format.proofs.Laws.{orders}
 use Rattle.record_lines.proofs.Table.{with-append}
 use Rattle.record_lines.specs.Names.{aLetter, bLetter, termName}
-use Rattle.record_lines.specs.Lines.{numberLine, withLine}
+use Rattle.record_lines.specs.Lines.{numberLine}
 use Rattle.record_lines.specs.Parts.{termLines}
 use Rattle.record_lines.specs.Table.{Slot, startSlots, cdSlots, termSlots, errorSlots}
 use Rattle.record_scan.specs.declared.Spot.{Spot}
@@ -55,9 +60,14 @@ pub start-blanks : Blanks startSlots
 unfolding ofBits neg lt le eq
 start-blanks = (refl, (refl, (refl, (refl, tt))))
 
-pub cd-blanks : Blanks cdSlots
+pub cd-blanks : (number : ℕ) → Blanks (cdSlots (formatOf number))
 unfolding ofBits neg lt le eq
-cd-blanks = (refl, (refl, (refl, (refl, (refl, tt)))))
+cd-blanks number =
+    let o = orders number in
+    let f = formatOf number in
+    let least : (leb (f .«least_order») (f .«least_order») && leb (f .«least_order») (f .«most_order»)) ≡ true =
+    rw (le-leb (f .«least_order») (f .«least_order») (omega arith), le-leb (f .«least_order») (f .«most_order») (o .some)) in
+    (refl, (refl, (refl, (refl, (least, tt)))))
 
 pub error-blanks : Blanks errorSlots
 error-blanks = (refl, (refl, (refl, tt)))
@@ -112,8 +122,19 @@ error-apart = (no-need, (no-need, (no-need, tt)))
 pub start-apart : Apart startSlots
 start-apart = (no-need, (no-need, (no-need, (no-need, tt))))
 
-pub cd-apart : Apart cdSlots
-cd-apart = (no-need, (no-need, (no-need, (no-need, (no-need, tt)))))
+pub cd-apart : (f : Format) → Apart (cdSlots f)
+cd-apart f = (no-need, (no-need, (no-need, (no-need, (no-need, tt)))))
+
+-- ---- the orders
+
+-- an order that is fitted is one of every format's
+pub order-suits : (number order : ℕ) → 2 ≤ order → order ≤ 5 → (leb (formatOf number .«least_order») order && leb order (formatOf number .«most_order»)) ≡ true
+unfolding formatOf
+order-suits number order h g = go (eqb number 1)
+  where
+    go : (b : Bool) → (leb (cond b formatOne formatTwo .«least_order») order && leb order (cond b formatOne formatTwo .«most_order»)) ≡ true
+    go true = rw (le-leb 2 order h, le-leb order 5 g)
+    go false = rw (le-leb 2 order h, le-leb order 5 g)
 
 pub terms-apart : (n : ℕ) → Apart (termSlots aLetter firstTerm n ++ (termSlots bLetter firstTerm n ++ errorSlots))
 unfolding termAt

@@ -16,7 +16,7 @@ use Rattle.wcs.specs.Wcs.{isWcs}
 use Rattle.record_lines.specs.Lines.{Solution}
 use Rattle.record.specs.Record.{isOrder, lengthsFit, inputAnswer, Passed}
 
-both : (a b : Bool) → (a && b) ≡ true → (a ≡ true) × (b ≡ true)
+pub both : (a b : Bool) → (a && b) ≡ true → (a ≡ true) × (b ≡ true)
 both a b e = and-eq-true-iff a b .0 e
 
 all : (a b : Bool) → a ≡ true → b ≡ true → (a && b) ≡ true

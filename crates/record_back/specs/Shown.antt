@@ -1,16 +1,16 @@
 -- What a record shows of a solution. Definitions only.
-use mathlib.Core.List.{List, [], _∷_, map}
+use mathlib.Core.List.{List, [], _∷_}
 use Prim.Native.Nat.{ℕ}
 use lib.Dec.{T}
 use lib.Ieee.{Float, binary64, fits}
 use Rattle.wcs.specs.declared.Wcs.{Wcs}
 use Rattle.sip_terms.specs.declared.Sip.{Sip}
 use Rattle.sip_terms.specs.Terms.{keptOf}
-use Rattle.record_lines.specs.Lines.{Solution}
+use Rattle.record_lines.specs.Lines.{Solution, eachCoefficient}
 
 -- every number but the dropped coefficients, which are 0.0
 abbrev pub shownOf : Solution → Solution
-shownOf s = record { fit = s .fit; wcs = s .wcs; order = s .order; a = map keptOf (s .a); b = map keptOf (s .b) }
+shownOf s = eachCoefficient keptOf s
 
 -- a float that is an f64, as each float of the code is
 abbrev pub IsF64 : Float → Type 0

@@ -4,14 +4,14 @@ ghost use Prim.Native.Nat.{_≤_};
 ghost use lib.ListN.{length};
 
 // The first lines of the scope's record.
-const FORM: [u8; 16] = *b"format=1\nrows=6\n";
+const FORM: [u8; 16] = *b"format=2\nrows=6\n";
 
 // Those of its reference pixel and its CD numbers.
 const WCS: [u8; 140] = *b"crpix1=0000000000000000\ncrpix2=0000000000000000\n\
     cd1_1=3ff0000000000000\ncd1_2=0000000000000000\ncd2_1=0000000000000000\ncd2_2=3ff0000000000000\n";
 
-// Those of its order and its one coefficient.
-const TERMS: [u8; 31] = *b"order=2\na_2_0=3fe0000000000000\n";
+// Those of its order and its one coefficient, which was solved as 0.5.
+const TERMS: [u8; 31] = *b"order=2\na_2_0=bfe0000000000000\n";
 
 // Those of its errors.
 const ERRORS: [u8; 71] =
@@ -75,9 +75,24 @@ fn show_long() {
     show(b"2049 bytes\n", &text);
 }
 
+// The record as it was in format 1, and with other numbers in the format line.
+fn show_formats() {
+    show_parts(
+        b"the scope's record in format 1\n",
+        b"format=1\nrows=6\n",
+        b"order=2\na_2_0=3fe0000000000000\n",
+        &ERRORS,
+    );
+    show_form(b"format 1, the sign of format 2\n", b"format=1\nrows=6\n");
+    show_form(b"format 0\n", b"format=0\nrows=6\n");
+    show_form(b"format 3\n", b"format=3\nrows=6\n");
+    show_form(b"format 02\n", b"format=02\nrows=6\n");
+}
+
 fn main() {
     show(b"an empty text\n", b"");
     show_parts(b"the scope's record\n", &FORM, &TERMS, &ERRORS);
+    show_formats();
     show_end(
         b"no newline at the end\n",
         b"linear_rms=3fe0000000000000\nrms=0000000000000000\nwrms=0000000000000000",
@@ -86,22 +101,21 @@ fn main() {
         b"a byte after the end\n",
         b"linear_rms=3fe0000000000000\nrms=0000000000000000\nwrms=0000000000000000\n ",
     );
-    show_terms(b"capital digits\n", b"order=2\na_2_0=3FE0000000000000\n");
+    show_terms(b"capital digits\n", b"order=2\na_2_0=BFE0000000000000\n");
     show_terms(
         b"a coefficient that is dropped\n",
-        b"order=2\na_2_0=3bc79ca10c924223\n",
+        b"order=2\na_2_0=bbc79ca10c924223\n",
     );
     show_terms(
         b"a second a_2_0\n",
-        b"order=2\na_2_0=3fe0000000000000\na_2_0=3fe0000000000000\n",
+        b"order=2\na_2_0=bfe0000000000000\na_2_0=bfe0000000000000\n",
     );
     show_terms(
         b"b before a\n",
-        b"order=2\nb_2_0=3fe0000000000000\na_2_0=3fe0000000000000\n",
+        b"order=2\nb_2_0=bfe0000000000000\na_2_0=bfe0000000000000\n",
     );
-    show_form(b"a leading zero\n", b"format=1\nrows=06\n");
-    show_terms(b"order 6\n", b"order=6\na_2_0=3fe0000000000000\n");
-    show_form(b"carriage returns\n", b"format=1\r\nrows=6\r\n");
-    show_form(b"format 2\n", b"format=2\nrows=6\n");
+    show_form(b"a leading zero\n", b"format=2\nrows=06\n");
+    show_terms(b"order 6\n", b"order=6\na_2_0=bfe0000000000000\n");
+    show_form(b"carriage returns\n", b"format=2\r\nrows=6\r\n");
     show_long();
 }

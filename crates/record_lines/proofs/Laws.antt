@@ -1,7 +1,7 @@
 -- Laws of the lines: their texts one after the other, and the terms that are left. Assumes nothing.
 use mathlib.Core.Path.{_≡_, refl, sym}
 use mathlib.Core.Bool.{Bool, true, false, cond}
-use mathlib.Core.List.{List, [], _∷_, _++_, append-assoc}
+use mathlib.Core.List.{List, [], _∷_, _++_, append-assoc, map, map-append}
 use Prim.Native.Nat.{ℕ, suc, _+_, _≤_, _<_}
 use native.Mathlib.Numerals.{add-one}
 use lib.ListN.{length, getD, set, take, drop, drop-of-length-le}
@@ -33,9 +33,9 @@ with-text true line lines = refl
 with-text false line lines = refl
 
 -- a kept coefficient has its line
-pub line-kept : (letter : ℕ) (t : Term) (c : Float) → isKept c ≡ true → numberLine (termName letter t) c ≡ keptLine letter t c
+pub line-kept : (name : List ℕ) (letter : ℕ) (t : Term) (c : Float) → name ≡ termName letter t → isKept c ≡ true → numberLine name c ≡ keptLine letter t c
 unfolding keptLine
-line-kept letter t c e = rw e
+line-kept name letter t c en e = rw (en, e)
 
 -- a dropped one has none
 pub line-dropped : (letter : ℕ) (t : Term) (c : Float) → isKept c ≡ false → [] ≡ keptLine letter t c
@@ -55,6 +55,8 @@ pub terms-none : (letter : ℕ) (t : Term) (cs : List Float) (i : ℕ) → lengt
 unfolding termLines textOf
 terms-none letter t cs i h = rw (drop-of-length-le cs {i = i} h)
 
--- one number more is copied
-pub copied-more : (xs cs : List Float) (i : ℕ) (d : Float) → i < length xs → i < length cs → take i xs ≡ take i cs → take (i + 1) (set xs i (getD cs i d)) ≡ take (i + 1) cs
-copied-more xs cs i d h g e = rw (add-one i, take-suc-set xs i (getD cs i d) h, take-suc cs i d g, e)
+-- one number more is held
+pub held-more : (f : Float → Float) (xs cs : List Float) (i : ℕ) (d x : Float) → i < length xs → i < length cs → x ≡ f (getD cs i d)
+    → take i xs ≡ map f (take i cs) → take (i + 1) (set xs i x) ≡ map f (take (i + 1) cs)
+held-more f xs cs i d x h g ex e =
+    rw (add-one i, take-suc-set xs i x h, take-suc cs i d g, e, ex) (sym (map-append f (take i cs) (getD cs i d ∷ [])))

@@ -11,7 +11,7 @@ use Rattle.record_lines.specs.declared.Head.{Head}
 use Rattle.record_lines.specs.Names.{aLetter, bLetter, termName}
 use Rattle.record_lines.specs.Lines.{Solution, numberLine, withLine}
 use Rattle.record_lines.specs.Parts.{startLines, cdLines, headLines, termLines, errorLines}
-use Rattle.record_lines.specs.Table.{Slot, Value, termSlots, errorSlots, linesOf, recordOf}
+use Rattle.record_lines.specs.Table.{Slot, Value, termSlots, errorSlots, linesOf, linesAs}
 
 -- a line before others, and those before more
 pub with-append : (b : Bool) (line : List ℕ) (xs ys : List (List ℕ)) → withLine b line (xs ++ ys) ≡ withLine b line xs ++ ys
@@ -31,16 +31,16 @@ terms-lines-of : (letter : ℕ) (t : Term) (n : ℕ) (cs : List Float) (ks : Lis
 terms-lines-of letter t n cs ks vs e = rw (← e) (terms-lines letter t cs ks vs)
 
 -- the numbers of the lines before the terms
-abbrev pub headIn : Solution → Head
-headIn s = record { rows = s .fit .«rows_used»; wcs = s .wcs; order = s .order }
+abbrev pub headIn : ℕ → Solution → Head
+headIn number s = record { format = number; rows = s .fit .«rows_used»; wcs = s .wcs; order = s .order }
 
 -- a record with a coefficient for each term, in four parts
-pub record-parts : (s : Solution) → length (s .a) ≡ termCount (s .order) → length (s .b) ≡ termCount (s .order)
-    → recordOf s ≡ headLines (headIn s) ++ (termLines aLetter firstTerm (s .a) ++ (termLines bLetter firstTerm (s .b) ++ errorLines (s .fit)))
-unfolding recordOf linesOf headLines startLines cdLines errorLines
-record-parts s ea eb =
+pub record-parts : (number : ℕ) (s : Solution) → length (s .a) ≡ termCount (s .order) → length (s .b) ≡ termCount (s .order)
+    → linesAs number s ≡ headLines (headIn number s) ++ (termLines aLetter firstTerm (s .a) ++ (termLines bLetter firstTerm (s .b) ++ errorLines (s .fit)))
+unfolding linesAs linesOf headLines startLines cdLines errorLines
+record-parts number s ea eb =
     let n = termCount (s .order) in
     let E = Value.Real (s .fit .«linear_rms») ∷ Value.Real (s .fit .rms) ∷ Value.Real (s .fit .wrms) ∷ [] in
-    ap (λ (l : List (List ℕ)). headLines (headIn s) ++ l)
+    ap (λ (l : List (List ℕ)). headLines (headIn number s) ++ l)
     (terms-lines-of aLetter firstTerm n (s .a) (termSlots bLetter firstTerm n ++ errorSlots) (map Value.Real (s .b) ++ E) ea
     ∙ ap (λ (l : List (List ℕ)). termLines aLetter firstTerm (s .a) ++ l) (terms-lines-of bLetter firstTerm n (s .b) errorSlots E eb))

@@ -1,6 +1,6 @@
 -- The lines of a record, and what it shows. Definitions only.
 use mathlib.Core.Bool.{Bool, true, false}
-use mathlib.Core.List.{List, [], _∷_, _++_}
+use mathlib.Core.List.{List, [], _∷_, _++_, map}
 use Prim.Native.Nat.{ℕ}
 use lib.Ieee.{Float, toBits, binary64}
 use Rattle.text.specs.Lines.{floatLine}
@@ -14,6 +14,10 @@ pub record Solution : Type 0 where
   pub order : ℕ
   pub a : List Float
   pub b : List Float
+
+-- a solution with each of its coefficients changed
+abbrev pub eachCoefficient : (Float → Float) → Solution → Solution
+eachCoefficient change s = record { fit = s .fit; wcs = s .wcs; order = s .order; a = map change (s .a); b = map change (s .b) }
 
 -- the line of a float: the bits of every NaN are 7ff8000000000000
 abbrev pub numberLine : List ℕ → Float → List ℕ

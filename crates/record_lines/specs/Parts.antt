@@ -14,9 +14,11 @@ use Rattle.record_lines.specs.declared.Axis.{Axis}
 use Rattle.record_lines.specs.Names.{formatName, rowsName, crpix1Name, crpix2Name, cd11Name, cd12Name, cd21Name, cd22Name, orderName, linearName, rmsName, wrmsName, termName}
 use Rattle.record_lines.specs.Lines.{numberLine, withLine}
 
--- the form, the rows used, and the reference pixel
+-- the format, the rows used, and the reference pixel
 unfoldable pub startLines : Head → List (List ℕ)
-startLines h = decimalLine formatName 1 ∷ decimalLine rowsName (h .rows) ∷ numberLine crpix1Name (h .wcs .crpix1) ∷ numberLine crpix2Name (h .wcs .crpix2) ∷ []
+startLines h =
+    decimalLine formatName (h .format) ∷ decimalLine rowsName (h .rows)
+    ∷ numberLine crpix1Name (h .wcs .crpix1) ∷ numberLine crpix2Name (h .wcs .crpix2) ∷ []
 
 -- the CD numbers
 unfoldable pub cdLines : Wcs → List (List ℕ)

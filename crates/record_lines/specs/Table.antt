@@ -1,4 +1,4 @@
--- What a record is: a table of its lines, which the writer fills in and the reader reads. Definitions only.
+-- What a record is: a table of its lines, over its format, which the writer fills in and the reader reads. Definitions only.
 use mathlib.Core.Bool.{Bool, true, false, _&&_, _||_}
 use mathlib.Core.List.{List, [], _∷_, _++_, map}
 use Prim.Native.Nat.{ℕ, zero, suc}
@@ -8,9 +8,11 @@ use Rattle.text.specs.Lines.{decimalLine}
 use Rattle.domain.specs.Domain.{isPosition, isFinite}
 use Rattle.sip_terms.specs.declared.Term.{Term}
 use Rattle.sip_terms.specs.Terms.{firstTerm, nextTerm, termCount, isKept}
+use Rattle.record_format.specs.declared.Format.{Format}
+use Rattle.record_format.specs.Formats.{formatOf, newestFormat, heldBy}
 use Rattle.record_lines.specs.Names.{formatName, rowsName, crpix1Name, crpix2Name, cd11Name, cd12Name, cd21Name, cd22Name}
 use Rattle.record_lines.specs.Names.{orderName, linearName, rmsName, wrmsName, aLetter, bLetter, termName}
-use Rattle.record_lines.specs.Lines.{Solution, numberLine, withLine}
+use Rattle.record_lines.specs.Lines.{Solution, eachCoefficient, numberLine, withLine}
 
 -- what a line may hold: a decimal number from a least to a most, or a float that passes a test
 pub data Kind : Type 0 where
@@ -49,11 +51,13 @@ termSlot letter t = record { name = termName letter t; kind = Kind.Real (λ (x :
 
 -- the format, the rows used, and the reference pixel
 abbrev pub startSlots : List Slot
-startSlots = wholeSlot formatName 1 1 ∷ wholeSlot rowsName 0 100 ∷ positionSlot crpix1Name ∷ positionSlot crpix2Name ∷ []
+startSlots = wholeSlot formatName 1 newestFormat ∷ wholeSlot rowsName 0 100 ∷ positionSlot crpix1Name ∷ positionSlot crpix2Name ∷ []
 
--- the CD numbers and the order
-abbrev pub cdSlots : List Slot
-cdSlots = finiteSlot cd11Name ∷ finiteSlot cd12Name ∷ finiteSlot cd21Name ∷ finiteSlot cd22Name ∷ wholeSlot orderName 2 5 ∷ []
+-- the CD numbers and the order, which is one that the format may have
+abbrev pub cdSlots : Format → List Slot
+cdSlots f =
+    finiteSlot cd11Name ∷ finiteSlot cd12Name ∷ finiteSlot cd21Name ∷ finiteSlot cd22Name
+    ∷ wholeSlot orderName (f .«least_order») (f .«most_order») ∷ []
 
 -- the coefficients of n terms from a term on
 unfoldable pub termSlots : ℕ → Term → ℕ → List Slot
@@ -68,9 +72,9 @@ errorSlots = anySlot linearName ∷ anySlot rmsName ∷ anySlot wrmsName ∷ []
 abbrev pub tailSlots : ℕ → List Slot
 tailSlots n = termSlots aLetter firstTerm n ++ (termSlots bLetter firstTerm n ++ errorSlots)
 
--- format 1: all lines of a record of an order
-abbrev pub recordSlots : ℕ → List Slot
-recordSlots order = startSlots ++ (cdSlots ++ tailSlots (termCount order))
+-- all lines of a record of a format and an order
+abbrev pub recordSlots : Format → ℕ → List Slot
+recordSlots f order = startSlots ++ (cdSlots f ++ tailSlots (termCount order))
 
 -- ---- the table filled in
 
@@ -101,10 +105,10 @@ linesOf [] vs = []
 linesOf (k ∷ ks) [] = []
 linesOf (k ∷ ks) (v ∷ vs) = withLine (hasLine k v) (lineOf (k .name) v) (linesOf ks vs)
 
--- the values of a solution, in the order of the table
-abbrev pub valuesOf : Solution → List Value
-valuesOf s =
-    Value.Whole 1
+-- the values of a record, in the order of the table: the number of its format, and the numbers that its lines hold
+abbrev pub valuesOf : ℕ → Solution → List Value
+valuesOf number s =
+    Value.Whole number
     ∷ Value.Whole (s .fit .«rows_used»)
     ∷ Value.Real (s .wcs .crpix1)
     ∷ Value.Real (s .wcs .crpix2)
@@ -120,6 +124,18 @@ valuesOf s =
     ∷ Value.Real (s .fit .wrms)
     ∷ [])))
 
--- the whole record
-unfoldable pub recordOf : Solution → List (List ℕ)
-recordOf s = linesOf (recordSlots (s .order)) (valuesOf s)
+-- the lines of a format, for the numbers that they hold
+unfoldable pub linesAs : ℕ → Solution → List (List ℕ)
+linesAs number s = linesOf (recordSlots (formatOf number) (s .order)) (valuesOf number s)
+
+-- the numbers that the lines of a format hold of a solution: its own, but for the sign of the coefficients
+abbrev pub heldAs : Format → Solution → Solution
+heldAs f s = eachCoefficient (heldBy f) s
+
+-- the record of a solution in a format
+abbrev pub recordAs : ℕ → Solution → List (List ℕ)
+recordAs number s = linesAs number (heldAs (formatOf number) s)
+
+-- the record that is written
+abbrev pub recordOf : Solution → List (List ℕ)
+recordOf s = recordAs newestFormat s

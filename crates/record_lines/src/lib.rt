@@ -1,23 +1,28 @@
 // The lines of a record, put into lent bytes at a place. Each function returns the place after its text.
+use record_format::Format;
 use sip_terms::Sip;
 use sip_terms::Term;
 use wcs::Wcs;
 ghost use mathlib.Core.Path.{_≡_};
+ghost use mathlib.Core.List.{map};
 ghost use Prim.Native.Nat.{_+_, _<_, _≤_};
 ghost use lib.ListN.{length};
 ghost use Rattle.put.specs.Put.{Put, Room};
 ghost use Rattle.sip_terms.specs.Terms.{firstTerm};
+ghost use Rattle.record_format.specs.Formats.{formatOf, heldBy};
+ghost use Rattle.record_lines.specs.Names.{termName};
 ghost use Rattle.record_lines.specs.Lines.{textOf};
 ghost use Rattle.record_lines.specs.Parts.{startLines, cdLines, headLines, keptLine, numbersOf, axisLines, errorLines, termLines};
 
 // The numbers of the lines before the terms.
 pub struct Head {
+    pub format: u32,
     pub rows: usize,
     pub wcs: Wcs,
     pub order: u32,
 }
 
-// The coefficients of one axis: its letter, and how many numbers stand in the list, one for each term.
+// What the lines of one axis hold: its letter, and how many numbers stand in the list, one for each term.
 pub struct Axis {
     pub letter: u8,
     pub terms: usize,
@@ -25,15 +30,16 @@ pub struct Axis {
 }
 
 impl Axis {
-    // Those of a list.
-    pub fn of(letter: u8, cs: &[f64]) -> Axis
+    // What the lines of a format hold of a list of solved coefficients.
+    pub fn of(number: u32, letter: u8, cs: &[f64]) -> Axis
         requires { ⌜ length (now cs) ≤ 18 ⌝ }
-        ensures { λ r. ⌜ (r .letter ≡ letter) × (r .terms ≤ 18) × (numbersOf r ≡ now (cs .entry)) ⌝ }
+        ensures { λ r. ⌜ (r .letter ≡ letter) × (r .terms ≤ 18) × (numbersOf r ≡ map (heldBy (formatOf number)) (now (cs .entry))) ⌝ }
     {
+        let format = Format::of(number);
         let mut numbers = [0.0f64; 18];
         let mut i = 0usize;
         while i < cs.len() {
-            numbers[i] = cs[i];
+            numbers[i] = format.held(cs[i]);
             i += 1;
         }
         Axis {
@@ -44,13 +50,13 @@ impl Axis {
     }
 }
 
-// The form, the rows used, and the reference pixel.
+// The format, the rows used, and the reference pixel.
 fn put_start(buf: &mut [u8], at: usize, h: Head) -> usize
     requires { ⌜ Room (now buf) at (textOf (startLines h)) ⌝ }
     ensures { λ r. ⌜ Put (now (buf .entry)) at (textOf (startLines h)) r (now (buf .exit)) ⌝ }
 {
     let wcs = h.wcs;
-    let p = text::put_decimal_line(buf, at, b"format=", 1);
+    let p = text::put_decimal_line(buf, at, b"format=", h.format as u64);
     let q = text::put_decimal_line(buf, p, b"rows=", h.rows as u64);
     let r = text::put_float_line(buf, q, b"crpix1=", wcs.crpix1);
     text::put_float_line(buf, r, b"crpix2=", wcs.crpix2)
@@ -77,14 +83,21 @@ pub fn put_head(buf: &mut [u8], at: usize, h: Head) -> usize
     text::put_decimal_line(buf, q, b"order=", h.order as u64)
 }
 
+// The name of a term's line.
+pub fn term_name(letter: u8, t: Term) -> [u8; 6]
+    requires { ⌜ t .p + t .q < 10 ⌝ }
+    ensures { λ r. ⌜ r ≡ termName letter t ⌝ }
+{
+    [letter, b'_', 48 + t.p as u8, b'_', 48 + t.q as u8, b'=']
+}
+
 // The line of one coefficient, where it is kept.
 fn put_term(buf: &mut [u8], at: usize, letter: u8, t: Term, c: f64) -> usize
     requires { ⌜ (t .p + t .q < 10) × Room (now buf) at (keptLine letter t c) ⌝ }
     ensures { λ r. ⌜ Put (now (buf .entry)) at (keptLine letter t c) r (now (buf .exit)) ⌝ }
 {
     if sip_terms::is_kept(c) {
-        let name = [letter, b'_', 48 + t.p as u8, b'_', 48 + t.q as u8, b'='];
-        return text::put_float_line(buf, at, &name, c);
+        return text::put_float_line(buf, at, &term_name(letter, t), c);
     }
     at
 }

@@ -78,8 +78,9 @@ fn hand_both(xs: &[f64], ys: &[f64], a: &mut [f64], b: &mut [f64]) -> Answer
     }
 }
 
-// Reads a record: what it shows beside its coefficients is the answer, and those of each axis, one for each term of the
-// order, are handed out to the front of a list, a dropped one as 0.0. A refusal hands out nothing.
+// Reads a record of any format: what it shows beside its coefficients is the answer, and those of each axis, one for each
+// term of the order, are handed out as they were solved to the front of a list, a dropped one as 0.0. A refusal hands out
+// nothing.
 pub fn read_record(text: &[u8], a: &mut [f64], b: &mut [f64]) -> Loaded
     ensures { λ r. ⌜ RecordLoaded (recordIn (now (text .entry))) (now (a .entry)) (now (b .entry)) r (now (a .exit)) (now (b .exit)) ⌝ }
 {

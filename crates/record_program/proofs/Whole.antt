@@ -1,5 +1,6 @@
 -- Laws of the whole program: what was read decides what is printed, and it has room. Assumes nothing.
 use mathlib.Core.Path.{_≡_, refl, sym, ap, _∙_}
+use mathlib.Core.Bool.{true}
 use mathlib.Core.List.{List, _++_}
 use Prim.Native.Nat.{ℕ, _≤_}
 use native.Mathlib.Omega.{arith}
@@ -15,6 +16,7 @@ use Rattle.answer.specs.declared.Answer.the-variants as answer
 use Rattle.wcs.specs.declared.Wcs.{Wcs}
 use Rattle.sip_terms.specs.declared.Sip.{Sip}
 use Rattle.sip_terms.specs.Terms.{termCount}
+use Rattle.record_format.specs.Formats.{isFormat}
 use Rattle.record_lines.specs.Lines.{Solution}
 use Rattle.record.specs.Record.{solution, Passed}
 use Rattle.record.proofs.Laws.{checked}
@@ -63,19 +65,19 @@ wrong-is t a b x y r line la lb k e = go (recordIn t) (sym e ∙ (rw (la, lb) at
     go (Reading.WrongAt n) f = let z : line ≡ n = cc in ap wrongText z
 
 -- what is known of the front of two lists into which the n coefficients of each axis were read
-pub record Known (t : List ℕ) (fit : Sip) (wcs : Wcs) (order n : ℕ) (x y : List Float) : Type 0 where
+pub record Known (t : List ℕ) (format : ℕ) (fit : Sip) (wcs : Wcs) (order n : ℕ) (x y : List Float) : Type 0 where
   pub least : 2 ≤ order
   pub low : order ≤ 5
   pub few : n ≤ 18
   pub few-a : length (take n x) ≤ 18
   pub few-b : length (take n y) ≤ 18
-  pub text : shownText (solution fit wcs order (take n x) (take n y)) ≡ programText t
-  pub short : length (shownText (solution fit wcs order (take n x) (take n y))) ≤ 1074
+  pub text : shownText format (solution fit wcs order (take n x) (take n y)) ≡ programText t
+  pub short : length (shownText format (solution fit wcs order (take n x) (take n y))) ≤ 1074
 
 -- it holds where the numbers and the front of each list are those of a solution that the writer accepts
-known : (t : List ℕ) (s : Solution) (fit : Sip) (wcs : Wcs) (order n : ℕ) (x y : List Float) → Passed s → shownText s ≡ programText t
-    → fit ≡ s .fit → wcs ≡ s .wcs → order ≡ s .order → n ≡ termCount order → take n x ≡ s .a → take n y ≡ s .b → Known t fit wcs order n x y
-known t s fit wcs order n x y p e ef ew eo en ex ey =
+known : (t : List ℕ) (format : ℕ) (s : Solution) (fit : Sip) (wcs : Wcs) (order n : ℕ) (x y : List Float) → isFormat format ≡ true → Passed s → shownText format s ≡ programText t
+    → fit ≡ s .fit → wcs ≡ s .wcs → order ≡ s .order → n ≡ termCount order → take n x ≡ s .a → take n y ≡ s .b → Known t format fit wcs order n x y
+known t format s fit wcs order n x y is p e ef ew eo en ex ey =
     let k = checked (s .fit) (s .wcs) (s .order) (length (s .a)) (length (s .b)) p in
     let es : solution fit wcs order (take n x) (take n y) ≡ s = λ i. record { fit = ef i; wcs = ew i; order = eo i; a = ex i; b = ey i } in
     record {
@@ -84,8 +86,8 @@ known t s fit wcs order n x y p e ef ew eo en ex ey =
       few = omega (arith, k .few-a, k .a-is, en ∙ ap termCount eo);
       few-a = omega (arith, k .few-a, ap length ex);
       few-b = omega (arith, k .few-b, ap length ey);
-      text = ap shownText es ∙ e;
-      short = omega (arith, shown-short s p, ap (λ (q : Solution). length (shownText q)) es);
+      text = ap (shownText format) es ∙ e;
+      short = omega (arith, shown-short format s is p, ap (λ (q : Solution). length (shownText format q)) es);
     }
 
 -- a list that was written from the front of another begins with it
@@ -94,15 +96,17 @@ front-is n us old new e l = ap (take n) e ∙ take-at us (drop (length us) old) 
 
 -- a text that shows a solution: all its numbers are printed
 pub shows : (t : List ℕ) (a b x y : List Float) (r : Loaded) (format : ℕ) (fit : Sip) (wcs : Wcs) (order n : ℕ) → length a ≡ 18 → length b ≡ 18
-    → RecordLoaded (recordIn t) a b r x y → r ≡ loaded.Is format fit wcs order → n ≡ termCount order → Known t fit wcs order n x y
+    → RecordLoaded (recordIn t) a b r x y → r ≡ loaded.Is format fit wcs order → n ≡ termCount order → Known t format fit wcs order n x y
 unfolding programText
 shows t a b x y r format fit wcs order n la lb k e en = go (recordIn t) refl (sym e ∙ (rw (la, lb) at (k .answer)) ∙ answer-is t) (rw (la, lb) at (k .first)) (rw (la, lb) at (k .second))
   where
     go : (q : Reading) → recordIn t ≡ q → loaded.Is format fit wcs order ≡ loadedIn q → x ≡ lentAfter (loadDone q 18 18) (aIn q) a → y ≡ lentAfter (loadDone q 18 18) (bIn q) b
-        → Known t fit wcs order n x y
+        → Known t format fit wcs order n x y
     go (Reading.WrongAt line) eq f g h = let z : _≡_ {A = ℕ} 0 1 = cc in absurd (omega arith)
     go (Reading.Shows m s) eq f g h =
-        let p = writes-back t m s eq .passed in
+        let w = writes-back t m s eq in
+        let p = w .passed in
+        let em : m ≡ format = cc in
         let c = checked (s .fit) (s .wcs) (s .order) (length (s .a)) (length (s .b)) p in
         let ef : fit ≡ s .fit = cc in
         let ew : wcs ≡ s .wcs = cc in
@@ -110,7 +114,7 @@ shows t a b x y r format fit wcs order n la lb k e en = go (recordIn t) refl (sy
         let en′ : termCount (s .order) ≡ n = sym (en ∙ ap termCount eo) in
         let xs : x ≡ written (s .a) a = rw (room-enough s p) at g in
         let ys : y ≡ written (s .b) b = rw (room-enough s p) at h in
-        known t s fit wcs order n x y p (ap readingText (sym eq)) ef ew eo en (front-is n (s .a) a x xs (c .a-is ∙ en′)) (front-is n (s .b) b y ys (c .b-is ∙ en′))
+        known t format s fit wcs order n x y (rw em at (w .format)) p (rw em at (ap readingText (sym eq))) ef ew eo en (front-is n (s .a) a x xs (c .a-is ∙ en′)) (front-is n (s .b) b y ys (c .b-is ∙ en′))
 
 -- ---- the buffer
 

@@ -23,17 +23,18 @@ unfoldable pub allLines : ℕ → Term → List Float → List (List ℕ)
 allLines letter t [] = []
 allLines letter t (c ∷ cs) = numberLine (termName letter t) c ∷ allLines letter (nextTerm t) cs
 
--- all numbers of a solution, each under its name in the record
-unfoldable pub shownLines : Solution → List (List ℕ)
-shownLines s =
-    headLines (record { rows = s .fit .«rows_used»; wcs = s .wcs; order = s .order })
+-- the number of the format, and all numbers of the solution, each under its name in the record: the coefficients as they were solved,
+-- whichever the format
+unfoldable pub shownLines : ℕ → Solution → List (List ℕ)
+shownLines format s =
+    headLines (record { format = format; rows = s .fit .«rows_used»; wcs = s .wcs; order = s .order })
     ++ (allLines aLetter firstTerm (s .a)
     ++ (allLines bLetter firstTerm (s .b)
     ++ errorLines (s .fit)))
 
--- number 0, and all numbers of a solution
-unfoldable pub shownText : Solution → List ℕ
-shownText s = decimalLine statusName 0 ++ textOf (shownLines s)
+-- number 0, and all these numbers
+unfoldable pub shownText : ℕ → Solution → List ℕ
+shownText format s = decimalLine statusName 0 ++ textOf (shownLines format s)
 
 -- number 10, and the number of the first wrong line
 unfoldable pub wrongText : ℕ → List ℕ
@@ -41,7 +42,7 @@ wrongText line = decimalLine statusName 10 ++ decimalLine lineName line
 
 -- the text for what a record comes to
 abbrev pub readingText : Reading → List ℕ
-readingText (Reading.Shows format s) = shownText s
+readingText (Reading.Shows format s) = shownText format s
 readingText (Reading.WrongAt line) = wrongText line
 
 -- what the program prints

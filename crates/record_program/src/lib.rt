@@ -19,8 +19,7 @@ fn put_number(buf: &mut [u8], at: usize, letter: u8, t: Term, c: f64) -> usize
     requires { ⌜ (t .p + t .q < 10) × Room (now buf) at (numberLine (termName letter t) c) ⌝ }
     ensures { λ r. ⌜ Put (now (buf .entry)) at (numberLine (termName letter t) c) r (now (buf .exit)) ⌝ }
 {
-    let name = [letter, b'_', 48 + t.p as u8, b'_', 48 + t.q as u8, b'='];
-    text::put_float_line(buf, at, &name, c)
+    text::put_float_line(buf, at, &record_lines::term_name(letter, t), c)
 }
 
 // Puts the lines of a list of coefficients, one number for each term.
@@ -40,11 +39,22 @@ fn put_numbers(buf: &mut [u8], at: usize, letter: u8, cs: &[f64]) -> usize
 }
 
 // Puts the numbers that were read.
-fn put_shown(buf: &mut [u8], fit: Sip, wcs: Wcs, order: u32, a: &[f64], b: &[f64]) -> usize
-    requires { ⌜ (length (now a) ≤ 18) × (length (now b) ≤ 18) × Room (now buf) 0 (shownText (solution fit wcs order (now a) (now b))) ⌝ }
-    ensures { λ r. ⌜ Put (now (buf .entry)) 0 (shownText (solution fit wcs order (now (a .entry)) (now (b .entry)))) r (now (buf .exit)) ⌝ }
+fn put_shown(
+    buf: &mut [u8],
+    format: u32,
+    fit: Sip,
+    wcs: Wcs,
+    order: u32,
+    a: &[f64],
+    b: &[f64],
+) -> usize
+    requires { ⌜ (length (now a) ≤ 18) × (length (now b) ≤ 18)
+        × Room (now buf) 0 (shownText format (solution fit wcs order (now a) (now b))) ⌝ }
+    ensures { λ r. ⌜ Put (now (buf .entry)) 0
+        (shownText format (solution fit wcs order (now (a .entry)) (now (b .entry)))) r (now (buf .exit)) ⌝ }
 {
     let head = Head {
+        format,
         rows: fit.rows_used,
         wcs,
         order,
@@ -83,9 +93,9 @@ pub fn answer(s: &[u8], out: &mut [u8; 1074]) -> usize
     let mut a = [0.0f64; 18];
     let mut b = [0.0f64; 18];
     match record_load::read_record(s, &mut a, &mut b) {
-        Loaded::Is(_, fit, wcs, order) => {
+        Loaded::Is(format, fit, wcs, order) => {
             let n = sip_terms::term_count(order);
-            put_shown(out, fit, wcs, order, &a[..n], &b[..n])
+            put_shown(out, format, fit, wcs, order, &a[..n], &b[..n])
         }
         Loaded::Wrong(line) => put_wrong(out, line),
         // Eighteen places are room for every order.

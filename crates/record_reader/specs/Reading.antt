@@ -1,4 +1,4 @@
--- A record that is read: the lines of the table, part by part, and what a text comes to. Definitions only.
+-- A record that is read: the lines of the table of its format, part by part, and what a text comes to. Definitions only.
 use mathlib.Core.Bool.{true, cond, _&&_}
 use mathlib.Core.List.{List, map}
 use Prim.Native.Nat.{ℕ}
@@ -8,8 +8,10 @@ use lib.Ieee.{Float, binary64, ofBits}
 use Rattle.wcs.specs.declared.Wcs.{Wcs}
 use Rattle.sip_terms.specs.declared.Sip.{Sip}
 use Rattle.sip_terms.specs.Terms.{firstTerm, termCount}
+use Rattle.record_format.specs.declared.Format.{Format}
+use Rattle.record_format.specs.Formats.{formatOf, solvedBy}
 use Rattle.record_lines.specs.Names.{aLetter, bLetter}
-use Rattle.record_lines.specs.Lines.{Solution}
+use Rattle.record_lines.specs.Lines.{Solution, eachCoefficient}
 use Rattle.record_lines.specs.Table.{startSlots, cdSlots, termSlots, errorSlots}
 use Rattle.record_scan.specs.declared.Spot.{Spot}
 use Rattle.record_scan.specs.Slots.{Taken, readSlots}
@@ -34,11 +36,12 @@ formatIn start = getD (start .values) 0 0
 abbrev pub orderIn : Taken → ℕ
 orderIn cd = getD (cd .values) 4 0
 
--- the parts of a text, each read where the one before it ends; the order that is read says how many terms there are
+-- the parts of a text, each read where the one before it ends; the format that is read says which orders there are, and the order that
+-- is read says how many terms
 unfoldable pub readParts : List ℕ → Parts
 readParts s =
     let start = readSlots startSlots s startSpot in
-    let cd = readSlots cdSlots s (start .next) in
+    let cd = readSlots (cdSlots (formatOf (formatIn start))) s (start .next) in
     let a = readSlots (termSlots aLetter firstTerm (termCount (orderIn cd))) s (cd .next) in
     let b = readSlots (termSlots bLetter firstTerm (termCount (orderIn cd))) s (a .next) in
     record { start = start; cd = cd; a = a; b = b; errors = readSlots errorSlots s (b .next) }
@@ -47,7 +50,7 @@ readParts s =
 abbrev pub realAt : Taken → ℕ → Float
 realAt t i = ofBits binary64 (getD (t .values) i 0)
 
--- the coefficients of an axis
+-- what the lines of an axis hold
 abbrev pub realsIn : Taken → List Float
 realsIn t = map (ofBits binary64) (t .values)
 
@@ -71,15 +74,23 @@ fitFrom start errors = record {
   wrms = realAt errors 2;
 }
 
--- the solution that the parts show
-abbrev pub solutionFrom : Parts → Solution
-solutionFrom p = record {
+-- the numbers that the lines hold
+abbrev pub heldIn : Parts → Solution
+heldIn p = record {
   fit = fitFrom (p .start) (p .errors);
   wcs = wcsFrom (p .start) (p .cd);
   order = orderIn (p .cd);
   a = realsIn (p .a);
   b = realsIn (p .b);
 }
+
+-- the solution that was solved, from the numbers that the lines of a format hold
+abbrev pub solvedAs : Format → Solution → Solution
+solvedAs f s = eachCoefficient (solvedBy f) s
+
+-- the solution that the parts show
+abbrev pub solutionFrom : Parts → Solution
+solutionFrom p = solvedAs (formatOf (formatIn (p .start))) (heldIn p)
 
 -- a format's number and a solution, or the number of the first wrong line
 pub data Reading : Type 0 where

@@ -1,14 +1,17 @@
 // A record, read part by part. A part is read where the one before it ends; once a line was wrong, all parts after it are
 // read from the same place, and none of them moves it.
+use record_format::Format;
 use record_scan::Spot;
 use record_scan::Test;
 use sip_terms::Sip;
 use sip_terms::Term;
 use wcs::Wcs;
 ghost use mathlib.Core.Path.{_≡_};
+ghost use mathlib.Core.List.{map};
 ghost use Prim.Native.Nat.{_+_, _≤_};
 ghost use lib.ListN.{length};
 ghost use Rattle.sip_terms.specs.Terms.{firstTerm};
+ghost use Rattle.record_format.specs.Formats.{formatOf, solvedBy};
 ghost use Rattle.record_scan.specs.Slots.{readSlots};
 ghost use Rattle.record_reader.specs.Reading.{startSpot, realsIn, recordIn};
 ghost use Rattle.record_reader.specs.Loaded.{startIn, cdIn, errorsIn, shownWhole, shownIn, OrderShown, shownTerms};
@@ -61,7 +64,7 @@ impl Shown {
     }
 }
 
-// The form, the rows used and the reference pixel.
+// The format, the rows used and the reference pixel.
 fn read_start(s: &[u8]) -> Start
     ensures { λ r. ⌜ (r ≡ startIn (readSlots startSlots (now (s .entry)) startSpot)) × (r .next .line ≤ 5) ⌝ }
 {
@@ -70,7 +73,7 @@ fn read_start(s: &[u8]) -> Start
         line: 1,
         good: true,
     };
-    let format = record_scan::whole_line(s, begin, b"format=", 1, 1);
+    let format = record_scan::whole_line(s, begin, b"format=", 1, Format::NEWEST as u64);
     let rows = record_scan::whole_line(s, format.next, b"rows=", 0, 100);
     let x = record_scan::real_line(s, rows.next, b"crpix1=", true, Test::Position);
     let y = record_scan::real_line(s, x.next, b"crpix2=", true, Test::Position);
@@ -84,16 +87,19 @@ fn read_start(s: &[u8]) -> Start
     }
 }
 
-// The CD numbers and the order.
-fn read_cd(s: &[u8], c: Spot) -> Factors
+// The CD numbers and the order, in a format.
+fn read_cd(s: &[u8], c: Spot, number: u32) -> Factors
     requires { ⌜ c .line ≤ 5 ⌝ }
-    ensures { λ r. ⌜ (r ≡ cdIn (readSlots cdSlots (now (s .entry)) c)) × (r .next .line ≤ 10) × (2 ≤ r .order) × (r .order ≤ 5) ⌝ }
+    ensures { λ r. ⌜ (r ≡ cdIn (readSlots (cdSlots (formatOf number)) (now (s .entry)) c)) × (r .next .line ≤ 10)
+        × (2 ≤ r .order) × (r .order ≤ 5) ⌝ }
 {
+    let format = Format::of(number);
     let xx = record_scan::real_line(s, c, b"cd1_1=", true, Test::Finite);
     let xy = record_scan::real_line(s, xx.next, b"cd1_2=", true, Test::Finite);
     let yx = record_scan::real_line(s, xy.next, b"cd2_1=", true, Test::Finite);
     let yy = record_scan::real_line(s, yx.next, b"cd2_2=", true, Test::Finite);
-    let order = record_scan::whole_line(s, yy.next, b"order=", 2, 5);
+    let least = format.least_order as u64;
+    let order = record_scan::whole_line(s, yy.next, b"order=", least, format.most_order as u64);
     let next = order.next;
     Factors {
         cd1_1: scan_digits::of_bits(xx.value),
@@ -105,19 +111,21 @@ fn read_cd(s: &[u8], c: Spot) -> Factors
     }
 }
 
-// The coefficients of an axis, as many as the list has places.
-fn read_terms(s: &[u8], c: Spot, letter: u8, out: &mut [f64]) -> Spot
+// The solved coefficients of an axis, in a format, as many as the list has places.
+fn read_terms(s: &[u8], c: Spot, number: u32, letter: u8, out: &mut [f64]) -> Spot
     requires { ⌜ (length (now out) ≤ 18) × (c .line ≤ 100) ⌝ }
     ensures { λ r. ⌜ (r ≡ readSlots (termSlots letter firstTerm (length (now (out .entry)))) (now (s .entry)) c .next)
-        × (now (out .exit) ≡ realsIn (readSlots (termSlots letter firstTerm (length (now (out .entry)))) (now (s .entry)) c))
+        × (now (out .exit) ≡ map (solvedBy (formatOf number))
+        (realsIn (readSlots (termSlots letter firstTerm (length (now (out .entry)))) (now (s .entry)) c)))
         × (r .line ≤ c .line + 18) ⌝ }
 {
+    let format = Format::of(number);
     let mut here = c;
     let mut t = Term::first();
     let mut i = 0usize;
     while i < out.len() {
         let l = record_scan::term_line(s, here, letter, t);
-        out[i] = scan_digits::of_bits(l.value);
+        out[i] = format.solved(scan_digits::of_bits(l.value));
         here = l.next;
         t = t.next();
         i += 1;
@@ -174,10 +182,10 @@ pub fn load(s: &[u8], xs: &mut [f64], ys: &mut [f64]) -> Shown
         × OrderShown r × (length (now (xs .exit)) ≡ 18) × (length (now (ys .exit)) ≡ 18) ⌝ }
 {
     let start = read_start(s);
-    let cd = read_cd(s, start.next);
+    let cd = read_cd(s, start.next, start.format);
     let n = sip_terms::term_count(cd.order);
-    let here = read_terms(s, cd.next, b'a', &mut xs[..n]);
-    let there = read_terms(s, here, b'b', &mut ys[..n]);
+    let here = read_terms(s, cd.next, start.format, b'a', &mut xs[..n]);
+    let there = read_terms(s, here, start.format, b'b', &mut ys[..n]);
     let errors = read_errors(s, there);
     whole(s.len(), start, cd, errors)
 }

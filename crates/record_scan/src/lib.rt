@@ -108,6 +108,5 @@ pub fn term_line(s: &[u8], c: Spot, letter: u8, t: Term) -> Line
     requires { ⌜ (t .p + t .q < 10) × (c .line < 1000) ⌝ }
     ensures { λ r. ⌜ (r ≡ readSlot (termSlot letter t) (now (s .entry)) c) × (r .next .line ≤ c .line + 1) ⌝ }
 {
-    let name = [letter, b'_', 48 + t.p as u8, b'_', 48 + t.q as u8, b'='];
-    real_line(s, c, &name, false, Test::Kept)
+    real_line(s, c, &record_lines::term_name(letter, t), false, Test::Kept)
 }

@@ -9,29 +9,24 @@ use Rattle.record_lines.proofs.put_term.Tie as tie
 is-kept-requires : tie.Need-is-kept-requires
 is-kept-requires c κs = search needs
 
-cast-t8 : tie.Need-cast-t8
-cast-t8 c = search needs
-
-add-t9 : tie.Need-add-t9
-add-t9 c = search needs
-
-cast-t10 : tie.Need-cast-t10
-cast-t10 c = search needs
-
-add-t11 : tie.Need-add-t11
-add-t11 c = search needs
+term-name-requires : tie.Need-term-name-requires
+term-name-requires c κs = search needs
 
 slice-aggregate-put-float-line : tie.Need-slice-aggregate-put-float-line
 slice-aggregate-put-float-line c = search needs
 
 put-float-line-requires : tie.Need-put-float-line-requires
-put-float-line-requires c κs = same-room (line-kept _ _ _ (sym (c .before .before .before .before .before .is-kept .ensures) ∙ c .before .before .before .before .if1 .taken)) (c .before .before .before .before .before .before .before .pre .1)
+put-float-line-requires c κs =
+    let k = sym (c .before .before .before .before .is-kept .ensures) ∙ c .before .before .before .if1 .taken in
+    same-room (line-kept _ _ _ _ (c .before .term-name .ensures) k) (c .before .before .before .before .before .before .pre .1)
 
 same-length : tie.Need-same-length
 same-length c = search needs
 
 returns : tie.Need-returns
-returns c = same-text (line-kept _ _ _ (sym (c .before .before .before .before .before .before .before .before .is-kept .ensures) ∙ c .before .before .before .before .before .before .before .if1 .taken)) (c .before .before .put-float-line .ensures)
+returns c =
+    let k = sym (c .before .before .before .before .before .before .before .is-kept .ensures) ∙ c .before .before .before .before .before .before .if1 .taken in
+    same-text (line-kept _ _ _ _ (c .before .before .before .before .term-name .ensures) k) (c .before .before .put-float-line .ensures)
 
 returns-2 : tie.Need-returns-2
 returns-2 c = same-text (line-dropped _ _ _ (sym (c .before .is-kept .ensures) ∙ c .if1 .left)) put-none
@@ -41,10 +36,7 @@ put-term-spec =
     tie.close
     (tie.spec
     is-kept-requires
-    cast-t8
-    add-t9
-    cast-t10
-    add-t11
+    term-name-requires
     slice-aggregate-put-float-line
     put-float-line-requires
     same-length

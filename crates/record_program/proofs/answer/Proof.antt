@@ -19,37 +19,37 @@ slice-aggregate-read-record-2 c = search needs
 read-record-requires : tie.Need-read-record-requires
 read-record-requires c κs = search needs
 
-enum-known-fit : tie.Need-enum-known-fit
-enum-known-fit c = search needs
+enum-known-format : tie.Need-enum-known-format
+enum-known-format c = search needs
 
 term-count-requires : tie.Need-term-count-requires
 term-count-requires c κs =
-    let k = shows _ _ _ _ _ _ _ _ _ _ _ refl refl (c .before .before .before .before .before .read-record .ensures) (c .before .fit .given .1) refl in
+    let k = shows _ _ _ _ _ _ _ _ _ _ _ refl refl (c .before .before .before .before .before .read-record .ensures) (c .before .format .given .1) refl in
     (k .least, omega (arith, k .low))
 
 array-share-prefix-a : tie.Need-array-share-prefix-a
 array-share-prefix-a c =
-    let k = shows _ _ _ _ _ _ _ _ _ _ _ refl refl (c .before .before .before .before .before .before .before .read-record .ensures) (c .before .before .before .fit .given .1) (c .before .term-count .ensures) in
+    let k = shows _ _ _ _ _ _ _ _ _ _ _ refl refl (c .before .before .before .before .before .before .before .read-record .ensures) (c .before .before .before .format .given .1) (c .before .term-count .ensures) in
     omega (arith, k .few, c .before .before .before .before .before .before .before .read-record .kept .1 .0)
 
 slice-aggregate-put-shown : tie.Need-slice-aggregate-put-shown
 slice-aggregate-put-shown c =
-    let k = shows _ _ _ _ _ _ _ _ _ _ _ refl refl (c .before .before .before .before .before .before .before .before .read-record .ensures) (c .before .before .before .before .fit .given .1) (c .before .before .term-count .ensures) in
+    let k = shows _ _ _ _ _ _ _ _ _ _ _ refl refl (c .before .before .before .before .before .before .before .before .read-record .ensures) (c .before .before .before .before .format .given .1) (c .before .before .term-count .ensures) in
     sym (length-take-le _ _ (omega (arith, k .few, c .before .before .before .before .before .before .before .before .read-record .kept .1 .0)))
 
 array-share-prefix-b : tie.Need-array-share-prefix-b
 array-share-prefix-b c =
-    let k = shows _ _ _ _ _ _ _ _ _ _ _ refl refl (c .before .before .before .before .before .before .before .before .read-record .ensures) (c .before .before .before .before .fit .given .1) (c .before .before .term-count .ensures) in
+    let k = shows _ _ _ _ _ _ _ _ _ _ _ refl refl (c .before .before .before .before .before .before .before .before .read-record .ensures) (c .before .before .before .before .format .given .1) (c .before .before .term-count .ensures) in
     omega (arith, k .few, c .before .before .before .before .before .before .before .before .read-record .kept .1 .1 .0)
 
 slice-aggregate-put-shown-2 : tie.Need-slice-aggregate-put-shown-2
 slice-aggregate-put-shown-2 c =
-    let k = shows _ _ _ _ _ _ _ _ _ _ _ refl refl (c .before .before .before .before .before .before .before .before .before .read-record .ensures) (c .before .before .before .before .before .fit .given .1) (c .before .before .before .term-count .ensures) in
+    let k = shows _ _ _ _ _ _ _ _ _ _ _ refl refl (c .before .before .before .before .before .before .before .before .before .read-record .ensures) (c .before .before .before .before .before .format .given .1) (c .before .before .before .term-count .ensures) in
     sym (length-take-le _ _ (omega (arith, k .few, c .before .before .before .before .before .before .before .before .before .read-record .kept .1 .1 .0)))
 
 put-shown-requires : tie.Need-put-shown-requires
 put-shown-requires c κs =
-    let k = shows _ _ _ _ _ _ _ _ _ _ _ refl refl (c .before .before .before .before .before .before .before .before .before .read-record .ensures) (c .before .before .before .before .before .fit .given .1) (c .before .before .before .term-count .ensures) in
+    let k = shows _ _ _ _ _ _ _ _ _ _ _ refl refl (c .before .before .before .before .before .before .before .before .before .read-record .ensures) (c .before .before .before .before .before .format .given .1) (c .before .before .before .term-count .ensures) in
     let l : length (now (c .before .before .before .before .before .before .before .before .before .before .before .before .before .args .out)) ≡ 1074 = search needs in
     (k .few-a, k .few-b, room-is _ _ l (k .short))
 
@@ -69,7 +69,7 @@ never-requires c κs = not-refused _ _ _ _ _ _ _ refl refl (c .before .before .b
 
 returns : tie.Need-returns
 returns c =
-    let k = shows _ _ _ _ _ _ _ _ _ _ _ refl refl (c .before .before .before .before .before .before .before .before .before .before .read-record .ensures) (c .before .before .before .before .before .before .fit .given .1) (c .before .before .before .before .term-count .ensures) in
+    let k = shows _ _ _ _ _ _ _ _ _ _ _ refl refl (c .before .before .before .before .before .before .before .before .before .before .read-record .ensures) (c .before .before .before .before .before .before .format .given .1) (c .before .before .before .before .term-count .ensures) in
     let l : length (now (c .before .before .before .before .before .before .before .before .before .before .before .before .before .before .args .out)) ≡ 1074 = search needs in
     at-front _ _ _ _ _ (k .text) (room-is _ _ l (k .short)) (c .put-shown .ensures)
 
@@ -89,7 +89,7 @@ answer-spec =
     slice-aggregate-read-record
     slice-aggregate-read-record-2
     read-record-requires
-    enum-known-fit
+    enum-known-format
     term-count-requires
     array-share-prefix-a
     slice-aggregate-put-shown

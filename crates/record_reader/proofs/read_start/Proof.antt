@@ -8,6 +8,9 @@ use Rattle.record_reader.proofs.read_start.Tie as tie
 slice-aggregate-whole-line : tie.Need-slice-aggregate-whole-line
 slice-aggregate-whole-line c = search needs
 
+cast-whole-line : tie.Need-cast-whole-line
+cast-whole-line c = search needs
+
 whole-line-requires : tie.Need-whole-line-requires
 whole-line-requires c κs = search needs
 
@@ -29,8 +32,8 @@ slice-aggregate-real-line-2 c = search needs
 real-line-requires-2 : tie.Need-real-line-requires-2
 real-line-requires-2 c κs = search needs
 
-cast-t21 : tie.Need-cast-t21
-cast-t21 c = search needs
+cast-t22 : tie.Need-cast-t22
+cast-t22 c = search needs
 
 of-bits-requires : tie.Need-of-bits-requires
 of-bits-requires c κs = search needs
@@ -47,6 +50,7 @@ read-start-spec =
     tie.close
     (tie.spec
     slice-aggregate-whole-line
+    cast-whole-line
     whole-line-requires
     slice-aggregate-whole-line-2
     whole-line-requires-2
@@ -54,7 +58,7 @@ read-start-spec =
     real-line-requires
     slice-aggregate-real-line-2
     real-line-requires-2
-    cast-t21
+    cast-t22
     of-bits-requires
     of-bits-requires-2
     returns)
