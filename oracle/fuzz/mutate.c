@@ -1,5 +1,6 @@
 /* Half of the fuzzer's changes know what a record is: left to its own, it would hardly ever make a text
-   that is accepted. They make a new record, or change a digit, a float, a count or whole lines. */
+   that is accepted. They make a new record of either format, or change a digit, a float, the format, a
+   count or whole lines. */
 #include "draw.h"
 
 #include <ctype.h>
@@ -117,7 +118,8 @@ static void make_record(void)
 {
     int careful = draw(4) != 0;
     size_t order = 2 + draw(4), share = draw(9);
-    put(fresh_line("format=1\nrows=%zu\n", draw(careful ? 101 : 104)));
+    put(fresh_line("format=%zu\n", careful ? 1 + draw(2) : draw(4)));
+    put(fresh_line("rows=%zu\n", draw(careful ? 101 : 104)));
     put_float("crpix1", POSITION, careful);
     put_float("crpix2", POSITION, careful);
     put_float("cd1_1", FINITE, careful);
@@ -196,16 +198,19 @@ static void change_float(void)
     *line = fresh_line("%.*s=%016" PRIx64 "\n", (int)(is - line->at), line->at, bits);
 }
 
+/* One of a list, each as often as another. */
+#define ANY_OF(list) ((list)[draw(sizeof (list) / sizeof *(list))])
+
 static void change_count(void)
 {
+    static const char *const formats[] = {"1", "2", "0", "3", "12", "02", ""};
     static const char *const rows[] = {"0", "6", "9", "10", "99", "100", "101", "007", "", "18446744073709551622"};
     static const char *const orders[] = {"2", "3", "4", "5", "1", "6", "02", ""};
-    int is_rows = draw(2) == 0;
-    const char *name = is_rows ? "rows=" : "order=";
-    size_t at = find(name);
+    static const char *const names[] = {"format=", "rows=", "order="};
+    size_t which = draw(3), at = find(names[which]);
+    const char *value = which == 0 ? ANY_OF(formats) : which == 1 ? ANY_OF(rows) : ANY_OF(orders);
     if (at < count)
-        lines[at] = fresh_line("%s%s\n", name, is_rows ? rows[draw(sizeof rows / sizeof *rows)]
-                : orders[draw(sizeof orders / sizeof *orders)]);
+        lines[at] = fresh_line("%s%s\n", names[which], value);
 }
 
 /* Where the line of a coefficient belongs: after the order and all lines of coefficients before it. */

@@ -1,7 +1,8 @@
 /* The reader of records on the texts of a fuzzer. Each text is read twice: with ample room, and with
    room that a hash of the text chooses. All that is lent lies at an end of pages of its own, directly
    beside a page that nobody may touch: in one of the two calls before it, in the other behind it. What
-   a call must not change is compared, and a record that is accepted must be written back alike. */
+   a call must not change is compared. A record of format 2 that is accepted must be written back to its
+   bytes, and one of format 1 as the record of format 2 that reads as the same solution. */
 #define _DEFAULT_SOURCE
 #include "draw.h"
 #include "moorspindle.h"
@@ -14,7 +15,7 @@
 #include <sys/mman.h>
 #include <unistd.h>
 
-enum { LONGEST = 4096, TERMS = 18, ORDERS = 6, MARKED = 512 };
+enum { LONGEST = 4096, TERMS = 18, ORDERS = 6, FORMATS = 3, MARKED = 512 };
 enum { DONE = 0, ROOM = 7, FORM = 10 };
 
 /* What is lent: the reader's list and outputs, and the text that is written back. */
@@ -33,12 +34,12 @@ struct call {
     uint32_t answer;
 };
 
-static uint64_t texts, accepted, refused, without_room, refused_at[LONGEST + 2];
+static uint64_t texts, accepted[FORMATS], refused, without_room, refused_at[LONGEST + 2];
 
 /* Where a text was refused, and what was accepted, guides the fuzzer as its counters of the code do. */
 enum { LINES = 64, KEPT = 2 * TERMS + 1 };
 __attribute__((used, section("__libfuzzer_extra_counters")))
-static uint8_t seen[LINES + ORDERS * KEPT];
+static uint8_t seen[LINES + FORMATS * ORDERS * KEPT];
 
 static void must(int holds, const char *what)
 {
@@ -173,17 +174,49 @@ static size_t lines_of(const struct call *c, int axis)
     return lines;
 }
 
+/* Makes a record of format 1 that of format 2: other are the digit of its format and, in each line of a
+   coefficient, the sign bit. */
+static void turn_signs(uint8_t *text, size_t size)
+{
+    static const char digits[] = "0123456789abcdef";
+    text[7] = '2';
+    for (size_t at = 1; at < size; at++) {
+        const uint8_t *line = text + at;
+        if (line[-1] == '\n' && (line[0] == 'a' || line[0] == 'b') && line[1] == '_')
+            text[at + 6] = (uint8_t)digits[(strchr(digits, line[6]) - digits) ^ 8];
+    }
+}
+
+/* What was written back reads as the same solution. */
+static void check_read_again(const struct call *c, const uint8_t *text, size_t size)
+{
+    struct call again = {.behind = !c->behind, .mark = c->mark};
+    memcpy(again.count, c->count, sizeof again.count);
+    read_text(&again, text, size);
+    check_kept(&again, text);
+    must(again.answer == DONE && number(&again, FORMAT) == 2, "a written record is no record of format 2");
+    for (int i = ROWS; i < LINE; i++)
+        must(memcmp(place(c, i), place(&again, i), written(c, i) * unit[i]) == 0, "another solution is read back");
+}
+
 static void check_written_back(const struct call *c, const uint8_t *text, size_t size)
 {
+    static uint8_t wanted[LONGEST];
     struct call back = {.behind = !c->behind, .count = {[BACK] = size}};
     size_t terms = terms_of(number(c, ORDER));
     uint64_t end = 0;
+    must(memcmp(text, "format=", 7) == 0 && text[7] == '0' + number(c, FORMAT), "another format");
+    must(number(c, FORMAT) == 1 || number(c, FORMAT) == 2, "a format that there is not");
+    memcpy(wanted, text, size);
+    if (number(c, FORMAT) == 1)
+        turn_signs(wanted, size);
     memset(place(&back, BACK), (uint8_t)~c->mark, size);
     uint32_t answer = moorspindle_write_record(number(c, ROWS), lent(c, WCS), 6, (uint32_t)number(c, ORDER),
             lent(c, A), terms, lent(c, B), terms, lent(c, SUMS), 3, lent(&back, BACK), size, &end);
     must(answer == DONE, "an accepted record cannot be written");
-    must(end == size && memcmp(place(&back, BACK), text, size) == 0, "a record is written back otherwise");
-    must(memcmp(text, "format=", 7) == 0 && text[7] == '0' + number(c, FORMAT), "another format");
+    must(end == size && memcmp(place(&back, BACK), wanted, size) == 0, "a record is written back otherwise");
+    if (number(c, FORMAT) == 1)
+        check_read_again(c, wanted, size);
 }
 
 static void check_line(const struct call *c, const uint8_t *text, size_t size)
@@ -213,8 +246,8 @@ static void count(const struct call *ample, const struct call *other)
     without_room += other->answer == ROOM;
     if (ample->answer == DONE) {
         size_t lines = lines_of(ample, A) + lines_of(ample, B);
-        accepted++;
-        seen[LINES + number(ample, ORDER) * KEPT + lines] = 1;
+        accepted[number(ample, FORMAT)]++;
+        seen[LINES + (number(ample, FORMAT) * ORDERS + number(ample, ORDER)) * KEPT + lines] = 1;
         return;
     }
     uint64_t line = number(ample, LINE);
@@ -284,9 +317,10 @@ static void tell(void)
         first = first ? first : line;
         last = line;
     }
-    printf("\n%" PRIu64 " texts: %" PRIu64 " accepted, %" PRIu64 " refused at lines %" PRIu64 " to %" PRIu64
-            "; number 7 for want of room %" PRIu64 " times; nothing wrong\n",
-            texts, accepted, refused, first, last, without_room);
+    printf("\n%" PRIu64 " texts: %" PRIu64 " of format 1 and %" PRIu64 " of format 2 accepted, %" PRIu64
+            " refused at lines %" PRIu64 " to %" PRIu64 "; number 7 for want of room %" PRIu64
+            " times; nothing wrong\n",
+            texts, accepted[1], accepted[2], refused, first, last, without_room);
 }
 
 int LLVMFuzzerInitialize(int *argc, char ***argv)

@@ -1,5 +1,5 @@
-//! The record read back: whole records into room of every kind, and texts that come from a record by
-//! damage of every kind.
+//! The record read back: whole records of both formats into room of every kind, and texts that come
+//! from a record by damage of every kind.
 
 use std::hint::black_box;
 
@@ -60,9 +60,18 @@ fn room(order: u32) -> Room {
     [6, n, n, 3]
 }
 
-fn read(case: &Case, by: fn(&[u8], &mut Lent) -> u32) -> Answer {
+type Read = fn(&[u8], &mut Lent) -> u32;
+
+fn read(case: &Case, by: Read) -> Answer {
     let text = case.numbers_at::<u8>(0);
     let room = [1, 2, 3, 4].map(|place| case.number_at::<usize>(place));
+    let answer = read_onto(Answer::new(), &text, room, by);
+    assert!(reading(black_box(&text), room) == *case, "the text was changed");
+    answer
+}
+
+/// Puts what a text is read as behind an answer.
+fn read_onto(answer: Answer, text: &[u8], room: Room, by: Read) -> Answer {
     let [mut wcs, mut a, mut b, mut sums] = room.map(|length| vec![FLOAT; length]);
     let mut lent = Lent {
         format: WORD as u32,
@@ -74,9 +83,8 @@ fn read(case: &Case, by: fn(&[u8], &mut Lent) -> u32) -> Answer {
         sums: &mut sums,
         line: WORD,
     };
-    let number = by(&text, &mut lent);
-    assert!(reading(black_box(&text), room) == *case, "the text was changed");
-    let answer = Answer::new().number(number).number(lent.format).number(lent.rows_used);
+    let number = by(text, &mut lent);
+    let answer = answer.number(number).number(lent.format).number(lent.rows_used);
     let answer = in_bits(in_bits(answer, lent.wcs).number(lent.order), lent.a);
     in_bits(in_bits(answer, lent.b), lent.sums).number(lent.line)
 }
@@ -86,7 +94,74 @@ fn in_bits(answer: Answer, list: &[f64]) -> Answer {
     answer.words(&list.iter().map(|x| x.to_bits()).collect::<Vec<_>>())
 }
 
+// ---- written back
+
+/// What is read is written back, and that is read again. Format 2 has the same bytes again, and
+/// format 1 becomes the record of format 2 that shows the same solution.
+pub const WRITTEN_BACK: Call = Call {
+    name: "read_record: written back",
+    count: 100_000,
+    theirs: |case| {
+        let text = case.numbers_at::<u8>(0);
+        back(&text, theirs::record::read_record, |_| due_back(&text))
+    },
+    ours: |case| {
+        let text = case.numbers_at::<u8>(0);
+        let written = |of: &Given| of.text_by(ours::record::write_record);
+        back(&text, ours::record::read_record, written)
+    },
+    ..READ_RECORD
+};
+
+/// Room for every record.
+const AMPLE: Room = [6, 18, 18, 3];
+
+/// What a text is read as, and where it is a record, the text that it is written back to and what
+/// that is read as.
+fn back(text: &[u8], by: Read, written: impl Fn(&Given) -> Vec<u8>) -> Answer {
+    let answer = read_onto(Answer::new(), text, AMPLE, by);
+    if answer.number_at::<u32>(0) != 0 {
+        return answer;
+    }
+    let text = written(&shown(&answer));
+    read_onto(answer.numbers(&text), &text, AMPLE, by)
+}
+
+/// The solution that was read.
+fn shown(answer: &Answer) -> Given {
+    let floats = |place: usize, length: usize| -> Vec<f64> {
+        answer.words_at(place)[..length].iter().map(|&bits| f64::from_bits(bits)).collect()
+    };
+    let order = answer.number_at(4);
+    let n = terms(order);
+    let (wcs, sums) = (floats(3, 6), floats(7, 3));
+    Given { rows: answer.number_at(2), wcs, order, a: floats(5, n), b: floats(6, n), sums }
+}
+
+/// The text that a record is written back to, by the request's words: of format 1 the format's
+/// digit and the sign bit of each coefficient change, and of format 2 nothing.
+fn due_back(text: &[u8]) -> Vec<u8> {
+    let mut lines = split_lines(text);
+    if lines[0] == b"format=1\n" {
+        lines[0] = b"format=2\n".to_vec();
+        for line in lines.iter_mut().filter(|line| matches!(line[..], [b'a' | b'b', b'_', ..])) {
+            line[6] = turned(line[6]);
+        }
+    }
+    lines.concat()
+}
+
+/// The hex digit with its highest bit turned.
+fn turned(digit: u8) -> u8 {
+    const DIGITS: &[u8; 16] = b"0123456789abcdef";
+    let value = DIGITS.iter().position(|&other| other == digit).expect("a hex digit");
+    DIGITS[value ^ 8]
+}
+
 // ---- edges
+
+/// Both formats, the one that is written first.
+const FORMATS: [u32; 2] = [2, 1];
 
 fn edge_cases(every: usize) -> Vec<Case> {
     let mut cases = whole_records(every);
@@ -94,9 +169,9 @@ fn edge_cases(every: usize) -> Vec<Case> {
     cases.extend(other_texts(every).iter().map(|text| reading(text, small)));
     cases.extend(values_put_in(every).iter().map(|text| reading(text, small)));
     // the first record is thinned out least, and the longest most
-    for (of, far) in records().iter().zip([1, 4, 26, 60]) {
-        let texts = damages(&of.text(), 1 + (every - 1) * far);
-        for (place, text) in texts.iter().enumerate() {
+    for (of, far) in records().iter().zip([2, 8, 52, 120]) {
+        let texts = FORMATS.map(|format| damages(of, format, 1 + (every - 1) * far));
+        for (place, text) in texts.concat().iter().enumerate() {
             let room = match place % 7 {
                 3 => [0; 4],
                 5 => room(of.order).map(|length| length - 1),
@@ -106,6 +181,12 @@ fn edge_cases(every: usize) -> Vec<Case> {
         }
     }
     cases
+}
+
+/// Each `every`-th of a series. Format 1 starts half-way, so that the two miss less together.
+fn thinned<T>(series: Vec<T>, format: u32, every: usize) -> impl Iterator<Item = T> {
+    let start = if format == 1 { every / 2 } else { 0 };
+    series.into_iter().skip(start).step_by(every)
 }
 
 /// A record of each order, with all of its coefficients, some, none, and all.
@@ -129,7 +210,9 @@ fn record(order: u32, rows: u64, kept: fn(usize) -> bool) -> Given {
     Given { rows, wcs, order, a, b, sums }
 }
 
-/// Records as they were written, into room of every kind.
+/// Records as they are written, as they were in format 1, and with the signs of the other format,
+/// into room of every kind. Thinned out, the formats take turns, but for the room that is just
+/// enough.
 fn whole_records(every: usize) -> Vec<Case> {
     let far = vec![FURTHEST, -FURTHEST, f64::MAX, -f64::MAX, -0.0, 5e-324];
     let odd = Given {
@@ -140,87 +223,134 @@ fn whole_records(every: usize) -> Vec<Case> {
         ..Given::settled()
     };
     let mut cases = Vec::new();
-    for of in records().into_iter().chain([Given::settled(), odd]) {
-        let exact = room(of.order);
-        let mut rooms = vec![exact, exact.map(|n| n + 2), [0; 4], exact.map(|n| n - 1)];
-        for list in 0..4 {
-            for length in [exact[list] - 1, exact[list] + 1, 0] {
-                let mut room = exact;
-                room[list] = length;
-                rooms.push(room);
-            }
-        }
+    for (at, of) in records().into_iter().chain([Given::settled(), odd]).enumerate() {
+        let texts =
+            [of.text(), of.text_in(1), marked(of.text(), b'1'), marked(of.text_in(1), b'2')];
         let few = if of.order > 2 { every.div_ceil(5) } else { 1 };
-        cases.extend(rooms.into_iter().step_by(few).map(|room| reading(&of.text(), room)));
+        for (place, room) in rooms(of.order).into_iter().step_by(few).enumerate() {
+            let turn = (at + place) % 2;
+            let texts = if every == 1 || place == 0 { &texts[..] } else { &texts[turn..=turn] };
+            cases.extend(texts.iter().map(|text| reading(text, room)));
+        }
     }
     cases
 }
 
+/// Room that is just enough, more, none, too little, and each list of another length alone.
+fn rooms(order: u32) -> Vec<Room> {
+    let exact = room(order);
+    let mut rooms = vec![exact, exact.map(|n| n + 2), [0; 4], exact.map(|n| n - 1)];
+    for list in 0..4 {
+        for length in [exact[list] - 1, exact[list] + 1, 0] {
+            let mut room = exact;
+            room[list] = length;
+            rooms.push(room);
+        }
+    }
+    rooms
+}
+
+/// The text with another digit in its format line.
+fn marked(mut text: Vec<u8>, digit: u8) -> Vec<u8> {
+    text[7] = digit;
+    text
+}
+
 /// Texts that are no record as a whole.
 fn other_texts(every: usize) -> Vec<Vec<u8>> {
-    let text = Given::settled().text();
-    let mut texts: Vec<Vec<u8>> =
-        ["", "\n", "\n\n", "\0", "=", "x", "format=1\n\n", "\u{feff}format=1\n"]
-            .map(|text| text.as_bytes().to_vec())
-            .to_vec();
-    let tails: [&[u8]; 8] =
-        [b"\n", b"x", b" ", b"\0", b"\xff", b"\r\n", b"wrms=0000000000000000\n", &text];
-    texts.extend(tails.map(|tail| [&text, tail].concat()));
-    texts.push(text[..text.len() - 1].to_vec());
-    texts.push(text.to_ascii_uppercase());
-    texts.push(String::from_utf8_lossy(&text).replace('\n', "\r\n").into_bytes());
-    texts.push(String::from_utf8_lossy(&text).replace('\n', "\n\n").into_bytes());
+    let mut texts: Vec<Vec<u8>> = ["", "\n", "\n\n", "\0", "=", "x"]
+        .into_iter()
+        .chain(["format=1\n\n", "format=2\n\n", "\u{feff}format=2\n", "format=1\nformat=2\n"])
+        .map(|text| text.as_bytes().to_vec())
+        .collect();
     let mut long = Vec::new();
-    for (more, digits) in [(1_000, 300), (5_000, 3_000)] {
-        for byte in *b"x\n\0" {
-            long.push([text.clone(), vec![byte; more]].concat());
-            long.push(vec![byte; more]);
-        }
-        for digit in *b"019" {
-            let line = [b"rows=".to_vec(), vec![digit; digits]].concat();
-            long.push([b"format=1\n", &line[..], b"\n", &text[16..]].concat());
-            long.push([b"format=1\n", &line[..]].concat());
-        }
+    for format in FORMATS {
+        let text = Given::settled().text_in(format);
+        let tails: [&[u8]; 8] =
+            [b"\n", b"x", b" ", b"\0", b"\xff", b"\r\n", b"wrms=0000000000000000\n", &text];
+        let tailed = tails.map(|tail| [&text, tail].concat()).to_vec();
+        texts.extend(tailed.into_iter().step_by(if format == 1 { every.div_ceil(5) } else { 1 }));
+        texts.push(text[..text.len() - 1].to_vec());
+        texts.push(text.to_ascii_uppercase());
+        texts.push(String::from_utf8_lossy(&text).replace('\n', "\r\n").into_bytes());
+        texts.push(String::from_utf8_lossy(&text).replace('\n', "\n\n").into_bytes());
+        long.extend(long_texts(&text));
     }
     texts.extend(long.into_iter().step_by(every));
     texts
 }
 
-/// The scope's record with each line's value changed, and with a line more, which a dropped coefficient
-/// has not. Thinned out, lines of a kind take turns with the floats, so that no float is lost.
-fn values_put_in(every: usize) -> Vec<Vec<u8>> {
-    let lines = split_lines(&Given::settled().text());
-    let mut texts = Vec::new();
-    for at in 0..lines.len() {
-        let few = if lines[at].len() < 16 { 1 } else { every.div_ceil(24) };
-        for line in revalued(&lines[at]).into_iter().skip(at % few).step_by(few) {
-            let mut other = lines.clone();
-            other[at] = line;
-            texts.push(other.concat());
+/// Texts that go on for long: behind the record, from the start, and in its second line.
+fn long_texts(text: &[u8]) -> Vec<Vec<u8>> {
+    let first = &text[..9];
+    let mut long = Vec::new();
+    for (more, digits) in [(1_000, 300), (5_000, 3_000)] {
+        for byte in *b"x\n\0" {
+            long.push([text, &vec![byte; more]].concat());
+            long.push(vec![byte; more]);
+        }
+        for digit in *b"019" {
+            let line = [b"rows=".to_vec(), vec![digit; digits]].concat();
+            long.push([first, &line, b"\n", &text[16..]].concat());
+            long.push([first, &line].concat());
         }
     }
-    for name in ["a_1_1", "b_0_2"] {
-        for line in revalued(format!("{name}=\n").as_bytes()) {
-            let mut other = lines.clone();
-            other.insert(10, line);
-            texts.push(other.concat());
+    long
+}
+
+/// The scope's record in both formats with each line's value changed, and with a line more, which a
+/// dropped coefficient has not. Thinned out, lines of a kind take turns with the floats, so that no
+/// float is lost.
+fn values_put_in(every: usize) -> Vec<Vec<u8>> {
+    let mut texts = Vec::new();
+    for format in FORMATS {
+        let lines = split_lines(&Given::settled().text_in(format));
+        for at in 0..lines.len() {
+            let few = fewer(&lines[at], format, every);
+            for line in revalued(&lines[at]).into_iter().skip(at % few).step_by(few) {
+                let mut other = lines.clone();
+                other[at] = line;
+                texts.push(other.concat());
+            }
+        }
+        for name in ["a_1_1", "b_0_2"] {
+            let forms = revalued(format!("{name}=\n").as_bytes());
+            for line in thinned(forms, format, every.div_ceil(8)) {
+                let mut other = lines.clone();
+                other.insert(10, line);
+                texts.push(other.concat());
+            }
         }
     }
     texts
 }
 
+/// How far the values of a line are thinned out: not at all where their sign may be turned, and
+/// elsewhere more in format 1.
+fn fewer(line: &[u8], format: u32, every: usize) -> usize {
+    match (format, line) {
+        (_, [b'a', ..]) => 1,
+        (1, [b'o', ..]) => every.div_ceil(24),
+        (1, _) => every.div_ceil(3),
+        _ if line.len() < 16 => 1,
+        _ => every.div_ceil(24),
+    }
+}
+
 // ---- damage
 
-/// The text cut short, and with each byte and each line damaged.
-fn damages(text: &[u8], every: usize) -> Vec<Vec<u8>> {
-    let mut texts = Vec::new();
-    texts.extend(line_damages(text).into_iter().step_by(every.div_ceil(25)));
-    texts.extend(byte_damages(text).into_iter().step_by(every * 3 / 2));
-    texts.extend((0..text.len()).step_by(every).map(|cut| text[..cut].to_vec()));
-    texts.extend(line_pairs(text).into_iter().step_by(every));
-    texts.extend(at_each_line(text, misspelt).into_iter().step_by(every.div_ceil(2)));
-    texts.extend(at_each_line(text, revalued).into_iter().step_by(every));
-    texts.extend(at_each_line(text, preceded).into_iter().step_by(2 * every - 1));
+/// The record of a format with a line more, cut short, and with each byte and each line damaged.
+fn damages(of: &Given, format: u32, every: usize) -> Vec<Vec<u8>> {
+    let text = &of.text_in(format);
+    let mut texts = vec![[text, &b"\n"[..]].concat()];
+    let mut add = |series, every| texts.extend(thinned(series, format, every));
+    add(line_damages(text), every.div_ceil(25));
+    add(byte_damages(text), every * 3 / 2);
+    add((0..text.len()).map(|cut| text[..cut].to_vec()).collect(), every);
+    add(line_pairs(text), every);
+    add(at_each_line(text, misspelt), every.div_ceil(2));
+    add(at_each_line(text, revalued), every);
+    add(at_each_line(text, preceded), 2 * every - 1);
     texts
 }
 
@@ -325,7 +455,10 @@ fn revalued(line: &[u8]) -> Vec<Vec<u8>> {
     let (value, end) = value_at(line);
     let put = |new: &str| [&line[..value], new.as_bytes(), &line[end..]].concat();
     let numbers = match &line[..value] {
-        b"format=" => "0 1 2 3 9 01 10 11 +1 -1 1.0 257 4294967297 18446744073709551617",
+        b"format=" => {
+            "0 1 2 3 4 9 01 02 10 11 12 20 21 +1 -1 1.0 2.0 257 258 4294967297 4294967298 \
+             18446744073709551617 18446744073709551618"
+        }
         b"rows=" => {
             "0 6 9 10 99 100 101 110 199 200 1000 00 06 010 0100 +6 -6 256 262 4294967302 \
              18446744073709551616 18446744073709551622 99999999999999999999 a 0x6 1e1"
@@ -380,9 +513,9 @@ fn random_record(random: &mut Random) -> Given {
     }
 }
 
-/// Its record or a damaged one, into room of any kind.
+/// Its record or a damaged one, into room of any kind. A third are of format 1.
 fn random_case(random: &mut Random, of: &Given) -> Case {
-    let mut text = of.text();
+    let mut text = of.text_in(random.one_of(&[1, 2, 2]));
     if random.below(2) == 0 {
         for _ in 0..=random.below(3) {
             text = damaged(random, &text);
@@ -459,36 +592,39 @@ mod tests {
         (answer.number_at(0), answer.number_at(8))
     }
 
-    /// Thinned out as it is stored, the damage of the first record is at every line, and behind them.
+    /// Thinned out as it is stored, the damage of the first record is at every line, and behind
+    /// them, in each format.
     #[test]
     fn every_line_is_damaged() {
         let of = &records()[0];
-        let texts = damages(&of.text(), 25);
-        let wrong: Vec<_> = texts.iter().map(|text| told(&reading(text, room(2)))).collect();
         assert_eq!(split_lines(&of.text()).len(), 18);
-        for line in 1..=19 {
-            let found = wrong.iter().filter(|&&told| told == (10, line)).count();
-            assert!(found > 2 || line == 19 && found > 0, "line {line}: {found}");
+        for format in FORMATS {
+            let texts = damages(of, format, 49);
+            let wrong: Vec<_> = texts.iter().map(|text| told(&reading(text, room(2)))).collect();
+            for line in 1..=19 {
+                let found = wrong.iter().filter(|&&told| told == (10, line)).count();
+                assert!(found > 1 || line == 19 && found > 0, "{format}, line {line}: {found}");
+            }
         }
     }
 
     #[test]
-    fn each_answer_is_asked_for() {
+    fn each_answer_is_asked_for_in_each_format() {
         let mut random = Random::new(1, READ_RECORD.name);
         let drawn: Vec<Case> = (0..300).map(|_| (READ_RECORD.random)(&mut random)).collect();
         let edges = edge_cases(25);
         assert!(edges.len() >= 300);
         for cases in [edges, drawn] {
-            for wanted in [0, 7, 10] {
-                assert!(
-                    cases.iter().filter(|case| told(case).0 == wanted).count() > 10,
-                    "{wanted}"
-                );
+            for (wanted, format) in [0, 7, 10].into_iter().flat_map(|n| FORMATS.map(|f| (n, f))) {
+                let first = format!("format={format}\n");
+                let named = |case: &Case| case.numbers_at::<u8>(0).starts_with(first.as_bytes());
+                let asked = |case: &&Case| told(case).0 == wanted && named(case);
+                assert!(cases.iter().filter(asked).count() > 10, "{wanted}, {format}");
             }
         }
     }
 
-    /// What the oracle's writer wrote, its reader gives back.
+    /// What the oracle's writer wrote, its reader gives back, and from format 1 too.
     #[test]
     fn a_written_record_reads_back() {
         let mut random = Random::new(1, "read back");
@@ -496,10 +632,37 @@ mod tests {
             let of = random_record(&mut random);
             let kept = |c: &f64| if c.abs() > 1e-20 { *c } else { 0.0 };
             let [a, b] = [&of.a, &of.b].map(|axis| axis.iter().map(kept).collect::<Vec<_>>());
-            let answer = (READ_RECORD.theirs)(&reading(&of.text(), room(of.order)));
             let solved = Answer::new().floats(&of.wcs).number(of.order).floats(&a).floats(&b);
             let solved = solved.floats(&of.sums).number(WORD);
-            assert_eq!(answer.to_string(), format!("0 1 {} {solved}", of.rows));
+            for (format, text) in [(1, of.text_in(1)), (2, of.text())] {
+                let answer = (READ_RECORD.theirs)(&reading(&text, room(of.order)));
+                assert_eq!(answer.to_string(), format!("0 {format} {} {solved}", of.rows));
+            }
         }
+    }
+
+    /// By the oracle's reader the text that is due shows the same solution, and the oracle's writer
+    /// writes it.
+    #[test]
+    fn what_is_due_is_the_same_solution() {
+        let mut random = Random::new(1, WRITTEN_BACK.name);
+        let mut accepted = [0; 2];
+        for _ in 0..1000 {
+            let case = (WRITTEN_BACK.random)(&mut random);
+            let text = case.numbers_at::<u8>(0);
+            let answer = (WRITTEN_BACK.theirs)(&case);
+            if answer.number_at::<u32>(0) != 0 {
+                continue;
+            }
+            let format: usize = answer.number_at(1);
+            accepted[format - 1] += 1;
+            let due = answer.numbers_at::<u8>(9);
+            assert_eq!(due == text, format == 2);
+            assert_eq!(due, shown(&answer).text());
+            let words = answer.to_string();
+            let words: Vec<&str> = words.split(' ').collect();
+            assert_eq!((words[10], words[11], &words[12..]), ("0", "2", &words[2..9]));
+        }
+        assert!(accepted.iter().all(|&n| n > 100), "{accepted:?}");
     }
 }

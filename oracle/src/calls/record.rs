@@ -3,7 +3,7 @@
 //! What is lent to be written starts filled with a pattern, and an answer holds it whole, so that a
 //! place that was not to be written shows when it was.
 
-use super::reader::{READ_RECORD, REAL_READS};
+use super::reader::{READ_RECORD, REAL_READS, WRITTEN_BACK};
 use super::sip::camera;
 use super::{Call, Group};
 use crate::case::{Answer, Case, Kind};
@@ -16,7 +16,7 @@ pub const GROUP: Group = Group {
     name: "record",
     title: "The record",
     calls: &[WRITE_RECORD, READ_RECORD],
-    also: &[REAL_FITS, REAL_READS],
+    also: &[REAL_FITS, REAL_READS, WRITTEN_BACK],
     notes: |_| Vec::new(),
     bench: bench::record::rows,
     tables: |_| Vec::new(),
@@ -45,15 +45,16 @@ const WRITE_RECORD: Call = Call {
         // the scope's record; a buffer exactly full, one byte short, and a byte over
         cases.extend([258, 257, 259, 0].map(|room| Given::settled().case(room)));
         for order in 2..=5 {
-            // none kept, all kept, and each term alone on each axis
+            // none kept, all kept, and each term alone on each axis, of both signs
             let n = terms(order);
-            for c in [0.0, 1e-20, -1e-20, f64::NAN, 1.5, f64::INFINITY, f64::NEG_INFINITY] {
+            let dropped = [0.0, -0.0, 1e-20, -1e-20, f64::NAN];
+            for c in dropped.into_iter().chain([1.5, -1.5, f64::INFINITY, f64::NEG_INFINITY]) {
                 let of = Given { order, a: vec![c; n], b: vec![c; n], ..Given::settled() };
                 cases.extend(of.around());
             }
             for i in 0..n {
                 let mut one = vec![0.0; n];
-                one[i] = 2.5;
+                one[i] = [2.5, -2.5][i % 2];
                 let of = Given { order, a: one.clone(), b: vec![0.0; n], ..Given::settled() };
                 cases.push(of.case(MOST));
                 let of = Given { order, a: vec![0.0; n], b: one, ..Given::settled() };
@@ -135,6 +136,8 @@ const REAL_FITS: Call = Call {
     ..WRITE_RECORD
 };
 
+type Write = fn(Solution, &mut [u8], &mut u64) -> u32;
+
 /// A solution by value.
 pub struct Given {
     pub rows: u64,
@@ -165,10 +168,19 @@ impl Given {
 
     /// Its record, empty where it has none.
     pub fn text(&self) -> Vec<u8> {
+        self.text_by(theirs::record::write_record)
+    }
+
+    pub fn text_by(&self, by: Write) -> Vec<u8> {
         let (mut text, mut written) = (vec![0; MOST], 0);
-        theirs::record::write_record(self.lent(), &mut text, &mut written);
+        by(self.lent(), &mut text, &mut written);
         text.truncate(written as usize);
         text
+    }
+
+    /// The record that it has, in a format.
+    pub fn text_in(&self, format: u32) -> Vec<u8> {
+        theirs::record::text_in(format, self.lent()).into_bytes()
     }
 
     fn length(&self) -> usize {
@@ -251,12 +263,15 @@ fn coefficient(random: &mut Random, odds: u64) -> f64 {
     match random.below(6) {
         0 => random.pattern(),
         1 => random.one_of(&[f64::INFINITY, f64::NEG_INFINITY]),
-        2 => random.near(1e-20, 3),
+        2 => {
+            let least = random.near(1e-20, 3);
+            random.signed(least)
+        }
         _ => random.between(-1.0, 1.0),
     }
 }
 
-fn run(case: &Case, by: fn(Solution, &mut [u8], &mut u64) -> u32) -> Answer {
+fn run(case: &Case, by: Write) -> Answer {
     let of = Solution {
         rows_used: case.number_at(0),
         wcs: case.floats_at(1),
