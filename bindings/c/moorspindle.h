@@ -249,26 +249,29 @@ uint32_t moorspindle_solve_normal_equations(const double *a, size_t a_len, const
    p falling, so that there are 3, 7, 12 or 18. Rows (xi, eta in degrees) weigh snr squared; up to
    ten rounds turn rows off. `a` and `b` need a number for each term, and a coefficient of 1e-20
    or less in magnitude is dropped, 0.0; *rows_used is the number of rows on at the end; `sums`
-   gets linear_rms, rms and wrms, and needs 3. The FITS SIP convention's numbers are these with
-   their signs turned. Refuses with 1 2 3 5 6 7 8, in this order but for 6 and 8 of a later solve,
-   of which the first met counts. */
+   gets linear_rms, rms and wrms, and needs 3. The FITS SIP convention's polynomial is ideal minus
+   pixel: these numbers with their sign bits turned. Refuses with 1 2 3 5 6 7 8, in this order but
+   for 6 and 8 of a later solve, of which the first met counts. */
 uint32_t moorspindle_fit_sip(const double *px, size_t px_len, const double *py, size_t py_len,
         const double *xi, size_t xi_len, const double *eta, size_t eta_len,
         const double *snr, size_t snr_len, const double *wcs, size_t wcs_len, uint32_t order,
         double *a, size_t a_len, double *b, size_t b_len,
         uint64_t *rows_used, double *sums, size_t sums_len);
 
-/* The text of a solution, a line for each number, floats as the 16 hex digits of their bits.
-   `a` and `b` have a number for each term of the order, and dropped ones no line; `sums` are the
-   three that fit_sip hands out, and in another length number 2. *written is the number of bytes,
-   at most 1,065; no zero byte ends them. Refuses with 1 2 3 5 7. */
+/* The text of a solution in format 2, a line for each number, floats as the 16 hex digits of their
+   bits. `a` and `b` have a number for each term of the order, as fit_sip solved it: its line holds
+   the FITS SIP convention's, with the sign bit turned, and dropped ones have no line. `sums` are
+   the three that fit_sip hands out, and in another length number 2. *written is the number of
+   bytes, at most 1,065; no zero byte ends them. Refuses with 1 2 3 5 7. */
 uint32_t moorspindle_write_record(uint64_t rows_used, const double *wcs, size_t wcs_len, uint32_t order,
         const double *a, size_t a_len, const double *b, size_t b_len,
         const double *sums, size_t sums_len, uint8_t *text, size_t text_len, uint64_t *written);
 
 /* The solution that a record shows: each line as write_record puts it, in its order, and nothing
-   after the last. *format is the number of the format line, 1. A coefficient without a line is
-   0.0; a NaN is the one that was written. `wcs` needs 6, `a` and `b` a number for each term of
+   after the last. *format is the number of the format line: 2, or 1, whose lines of coefficients
+   hold them as solved. Of either, `a` and `b` get what was solved, and a coefficient without a
+   line is 0.0; a NaN is the one that was written. Written again, a record of format 2 has the same
+   bytes, and one of format 1 is in format 2. `wcs` needs 6, `a` and `b` a number for each term of
    the order, of which there are at most 18, `sums` 3. Refuses with 10, which sets *line to the
    number of the first wrong line, from 1, and changes nothing else: the first that cannot stand
    there, some record beginning with the lines before it and none with those up to it. What ends

@@ -19,20 +19,24 @@ struct lent {
 static const double wcs[] = {0, 0, 1, 0, 0, 1}, bad[] = {0, 0, 1, NAN, 0, 1};
 static const double a[] = {0.5, 0, 1e-20, 0, 0, 0, 0}, none[7], sums[] = {0.5, 0, 0};
 
-/* the record of six rows, whose a_2_0 is 0.5 and all else is dropped */
-static const char record[] = "format=1\n"
-                             "rows=6\n"
-                             "crpix1=0000000000000000\n"
-                             "crpix2=0000000000000000\n"
-                             "cd1_1=3ff0000000000000\n"
-                             "cd1_2=0000000000000000\n"
-                             "cd2_1=0000000000000000\n"
-                             "cd2_2=3ff0000000000000\n"
-                             "order=2\n"
-                             "a_2_0=3fe0000000000000\n"
-                             "linear_rms=3fe0000000000000\n"
-                             "rms=0000000000000000\n"
-                             "wrms=0000000000000000\n";
+/* the record of six rows, whose a_2_0 was solved as 0.5 and all else is dropped, in each format */
+#define RECORD(format, a_2_0)                                                                      \
+    "format=" format "\n"                                                                          \
+    "rows=6\n"                                                                                     \
+    "crpix1=0000000000000000\n"                                                                    \
+    "crpix2=0000000000000000\n"                                                                    \
+    "cd1_1=3ff0000000000000\n"                                                                     \
+    "cd1_2=0000000000000000\n"                                                                     \
+    "cd2_1=0000000000000000\n"                                                                     \
+    "cd2_2=3ff0000000000000\n"                                                                     \
+    "order=2\n"                                                                                    \
+    "a_2_0=" a_2_0 "\n"                                                                            \
+    "linear_rms=3fe0000000000000\n"                                                                \
+    "rms=0000000000000000\n"                                                                       \
+    "wrms=0000000000000000\n"
+
+static const char record[] = RECORD("2", "bfe0000000000000");
+static const char old[] = RECORD("1", "3fe0000000000000");
 
 enum { SIZE = sizeof record - 1 };
 
@@ -50,18 +54,23 @@ static void written(size_t room)
     CALL(0, write_record, 6, wcs, 6, 2, a, 3, none, 3, sums, 3, OUT(room));
 }
 
-/* The solution of the record, into lists of their length or longer ones. */
-static void read_into(size_t w, size_t terms, size_t s)
+/* The solution of a record, into lists of their length or longer ones. It is written back in
+   format 2. */
+static void read_into(uint32_t format, const char *text, size_t w, size_t terms, size_t s)
 {
     lend();
-    due.format = 1;
+    due.format = format;
     due.rows = 6;
     memcpy(due.wcs, wcs, sizeof wcs);
     due.order = 2;
     due.a[0] = 0.5, due.a[1] = due.a[2] = 0;
     due.b[0] = due.b[1] = due.b[2] = 0;
     memcpy(due.sums, sums, sizeof sums);
-    CALL(0, read_record, TEXT(record), SIZE, INTO(w, terms, terms, s));
+    CALL(0, read_record, TEXT(text), SIZE, INTO(w, terms, terms, s));
+    memcpy(due.text, record, SIZE);
+    due.written = SIZE;
+    CALL(0, write_record, lent.rows, lent.wcs, 6, lent.order, lent.a, 3, lent.b, 3, lent.sums, 3,
+            OUT(1100));
 }
 
 /* A text that is wrong at a line: nothing else than the line's number changes, room or not. */
@@ -73,31 +82,49 @@ static void wrong_at(uint64_t line, const char *text, size_t size)
     CALL(10, read_record, TEXT(text), size, INTO(0, 0, 0, 0));
 }
 
-/* The record with one byte turned. */
-static void turned(uint64_t line, size_t at, char byte)
+/* A record with one byte turned. */
+static void turned(uint64_t line, const char *of, size_t at, char byte)
 {
     char text[sizeof record];
-    memcpy(text, record, sizeof record);
+    memcpy(text, of, sizeof record);
     text[at] = byte;
     wrong_at(line, text, SIZE);
 }
 
+/* Where a value starts; both formats have it at the same place. */
+static size_t value(const char *name)
+{
+    return (size_t)(strstr(record, name) - record) + strlen(name);
+}
+
+/* What is wrong in a record of one format is wrong in the other. */
+static void refusals(const char *of)
+{
+    wrong_at(13, of, SIZE - 1);                 /* no last newline */
+    wrong_at(14, of, sizeof record);            /* a byte after the last line */
+    turned(1, of, value("format="), '0');       /* other formats */
+    turned(1, of, value("format="), '3');
+    turned(5, of, value("cd1_1=") + 1, 'F');    /* an uppercase digit */
+    turned(9, of, value("order="), '6');        /* an order above 5 */
+    turned(10, of, value("a_2_0="), '0');       /* a coefficient that is dropped, of either sign */
+    turned(10, of, value("a_2_0="), '8');
+    turned(11, of, value("a_2_0=") + 17, 'a');  /* a line that is none */
+}
+
 static void reads(void)
 {
-    read_into(6, 3, 3);
-    read_into(7, 4, 4);
+    read_into(2, record, 6, 3, 3);
+    read_into(2, record, 7, 4, 4);
+    read_into(1, old, 6, 3, 3);
+    read_into(1, old, 7, 4, 4);
     REFUSED(7, read_record, TEXT(record), SIZE, INTO(5, 3, 3, 3));
+    REFUSED(7, read_record, TEXT(old), SIZE, INTO(5, 3, 3, 3));
     REFUSED(7, read_record, TEXT(record), SIZE, INTO(6, 2, 3, 3));
     REFUSED(7, read_record, TEXT(record), SIZE, INTO(6, 3, 2, 3));
     REFUSED(7, read_record, TEXT(record), SIZE, INTO(6, 3, 3, 2));
     wrong_at(1, NULL, 0);
-    wrong_at(13, record, SIZE - 1);                         /* no last newline */
-    wrong_at(14, record, sizeof record);                    /* a byte after the last line */
-    turned(1, 7, '2');                                      /* another format */
-    turned(5, strstr(record, "3ff") - record + 1, 'F');     /* an uppercase digit */
-    turned(9, strstr(record, "order=") - record + 6, '6');  /* an order above 5 */
-    turned(10, strstr(record, "3fe") - record, '0');        /* a coefficient that is dropped */
-    turned(11, strstr(record, "linear") - record, 'a');     /* a line that is none */
+    refusals(record);
+    refusals(old);
 }
 
 int main(void)

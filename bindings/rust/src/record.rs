@@ -37,7 +37,8 @@ impl Display for WrongLine {
 impl Error for WrongLine {}
 
 impl Solution {
-    /// Reads a record. A coefficient without a line is 0.0; writing gives the same text again.
+    /// Reads a record of format 2 or 1. The coefficients are as they were solved, whichever it is,
+    /// and one without a line is 0.0. Writing gives the same text again, or that of format 2.
     pub fn read(text: impl AsRef<[u8]>) -> std::result::Result<Solution, WrongLine> {
         Solution::read_format(text).map(|(solution, _)| solution)
     }
@@ -80,7 +81,7 @@ impl Solution {
         Ok((Solution { sip, wcs: Wcs::of(numbers) }, format))
     }
 
-    /// Its record.
+    /// Its record, in format 2.
     pub fn write(&self) -> Result<String> {
         write_record(&self.sip, self.wcs)
     }
@@ -91,7 +92,9 @@ impl Solution {
     }
 }
 
-/// The text of a solution: a line for each number, floats as the 16 hex digits of their bits.
+/// The text of a solution in format 2: a line for each number, floats as the 16 hex digits of their
+/// bits. The a and b lines hold the FITS SIP convention's coefficients, ideal minus pixel: those
+/// that were solved, with their sign bits turned.
 pub fn write_record(sip: &Sip, wcs: Wcs) -> Result<String> {
     let (mut text, mut written) = (vec![0; MOST_BYTES], 0);
     let (numbers, sums) = (wcs.numbers(), [sip.linear_rms, sip.rms, sip.wrms]);

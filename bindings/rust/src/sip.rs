@@ -3,8 +3,8 @@
 use crate::plate::Wcs;
 use crate::{Result, Rows, done, ffi};
 
-/// A fit. The coefficients stand in the order of [`terms`], a dropped one as 0.0; what they mean is
-/// said in `docs/ARCHITECTURE.md`, "The SIP fit".
+/// A fit of pixel minus ideal. The coefficients stand in the order of [`terms`], a dropped one as
+/// 0.0; what they mean is said in `docs/ARCHITECTURE.md`, "The SIP fit".
 #[derive(Clone, Debug, PartialEq)]
 pub struct Sip {
     pub order: u32,

@@ -160,15 +160,18 @@ fn sip_and_record() {
     assert_eq!((sip.rows_used, &*sip.a, &*sip.b), (6, &[0.5, 0.0, 0.0][..], &[0.0; 3][..]));
     assert_eq!(terms(3).collect::<Vec<_>>()[2..5], [(0, 2), (3, 0), (2, 1)]);
     let text = write_record(&sip, WCS).unwrap();
-    assert!(text.starts_with("format=1\nrows=6\ncrpix1=0000000000000000\n"));
-    assert!(text.contains("\norder=2\na_2_0=3fe0000000000000\nlinear_rms=3fe0000000000000\n"));
+    assert!(text.starts_with("format=2\nrows=6\ncrpix1=0000000000000000\n"));
+    assert!(text.contains("\norder=2\na_2_0=bfe0000000000000\nlinear_rms=3fe0000000000000\n"));
+    // what the line holds is added to a pixel to reach its ideal place
+    let held = f64::from_bits(0xbfe0_0000_0000_0000);
+    assert!(rows.px.iter().zip(rows.xi).all(|(u, xi)| u + held * u * u == *xi));
     assert_eq!(fit_sip(rows, &[1.0; 6], WCS, 3), Err(Refusal::Rows));
     assert_eq!(fit_sip(rows, &[1.0; 6], WCS, 6), Err(Refusal::Order));
 }
 
-#[test]
-fn record_read_back() {
-    let sip = Sip {
+/// A fit with coefficients of every kind.
+fn bent() -> Sip {
+    Sip {
         order: 3,
         a: vec![0.5, 0.0, f64::INFINITY, 0.0, 0.0, -2.0, 0.0],
         b: vec![0.0, 1e-300, 0.0, f64::NAN, 0.0, 0.0, 3.25],
@@ -176,18 +179,43 @@ fn record_read_back() {
         linear_rms: 0.5,
         rms: -0.0,
         wrms: 5e-324,
-    };
-    let text = Solution { sip: sip.clone(), wcs: WCS }.write().unwrap();
+    }
+}
+
+#[test]
+fn record_read_back() {
+    let text = Solution { sip: bent(), wcs: WCS }.write().unwrap();
     let (solution, format) = Solution::read_format(&text).unwrap();
     // of the second axis the NaN and 1e-300 are dropped
-    let kept = Sip { b: vec![0.0, 0.0, 0.0, 0.0, 0.0, 0.0, 3.25], ..sip };
-    assert_eq!((&solution, format), (&Solution { sip: kept, wcs: WCS }, 1));
+    let kept = Sip { b: vec![0.0, 0.0, 0.0, 0.0, 0.0, 0.0, 3.25], ..bent() };
+    assert_eq!((&solution, format), (&Solution { sip: kept, wcs: WCS }, 2));
     assert!(solution.sip.rms.is_sign_negative());
+    let dropped = |axis: &[f64]| axis.iter().filter(|c| c.to_bits() == 0).count();
+    assert_eq!((dropped(&solution.sip.a), dropped(&solution.sip.b)), (4, 6));
     assert_eq!(solution.to_bytes(), Ok(text.clone().into_bytes()));
     assert_eq!(Solution::read(text.as_bytes()), Ok(solution));
+}
 
+#[test]
+fn record_of_format_1() {
+    let new = Solution { sip: bent(), wcs: WCS }.write().unwrap();
+    assert!(new.contains("\na_2_0=bfe0000000000000\na_0_2=fff0000000000000\na_1_2=4"));
+    assert!(new.contains("\nb_0_3=c00a000000000000\n"));
+    // as it was written before: the coefficients with their own signs
+    let turned = [("2_0=b", "2_0=3"), ("0_2=f", "0_2=7"), ("1_2=4", "1_2=c"), ("0_3=c", "0_3=4")];
+    let marked = new.replace("format=2", "format=1");
+    let old = turned.iter().fold(marked, |text, (new, old)| text.replace(new, old));
+    let (solution, format) = Solution::read_format(&old).unwrap();
+    assert_eq!((format, Solution::read_format(&new)), (1, Ok((solution.clone(), 2))));
+    assert_eq!(solution.write(), Ok(new));
+}
+
+#[test]
+fn text_that_is_no_record() {
+    let text = Solution { sip: bent(), wcs: WCS }.write().unwrap();
     let wrong = |text: &str| Solution::read(text).unwrap_err().line;
     assert_eq!(wrong(""), 1);
+    assert_eq!(wrong(&text.replace("format=2", "format=3")), 1);
     assert_eq!(wrong(&text.replace("rows=42", "rows=101")), 2);
     assert_eq!(wrong(&text.replace("crpix1=000", "crpix1=7ff")), 3);
     assert_eq!(wrong(&text.replace("b_0_3=", "b_0_4=")), 13);
