@@ -25,7 +25,7 @@ use Rattle.quad_stars.specs.Stars.{starAt, fourAt, distSq, placesOf, starsAnswe
 use Rattle.quad_spine.specs.declared.Spine.the-variants as spine
 use Rattle.quad_spine.specs.Spine.{longer, longest, inOrder, oriented, spineOf, spineAnswer}
 use Rattle.quad_normal.specs.declared.Normal.the-variants as normal
-use Rattle.quad_normal.specs.Normal.{along, across, cFirst, hashOf, leastScale, normalOf, normalAnswer}
+use Rattle.quad_normal.specs.Normal.{along, across, cFirst, hashOf, leastScale, scaledBy, normalOf, normalAnswer}
 use Rattle.quad_key.specs.declared.Hash.{Hash}
 use Rattle.quad_key.specs.Key.{laneOf, keyOf, neighbourKey}
 use Rattle.hash_lanes.specs.Lanes.{hashAt}
@@ -139,7 +139,7 @@ pub record Table : Type 0 where
 
 -- each row holds by computation
 pub table : Table
-unfolding spineAnswer normalAnswer fourAnswer starsAnswer placesAnswer every starAt fourAt distSq longer longest inOrder oriented spineOf placesOf along across cFirst hashOf leastScale normalOf neighbourKey keyOf laneOf tableOf byKey quadKey turned hashAt floorOf toSigned ofInt ofBits neg mul add sub div lt eq le poolOf placesFrom leastOf greatest nextWord votesOf counts isFor votesAt better choose claim paired pairsOf clipTests weighedAnswer positionRows isCd clipFrom roundOf filled ones squaresTo clipOf anyRejected determinantOf inverseOf squareOf rootOf sumsTo magnitudeOf powerOf pivotRow eliminateFrom rowLess unknownsTo termAt valueTo
+unfolding spineAnswer normalAnswer fourAnswer starsAnswer placesAnswer every starAt fourAt distSq longer longest inOrder oriented spineOf placesOf along across cFirst hashOf leastScale scaledBy normalOf neighbourKey keyOf laneOf tableOf byKey quadKey turned hashAt floorOf toSigned ofInt ofBits neg mul add sub div lt eq le poolOf placesFrom leastOf greatest nextWord votesOf counts isFor votesAt better choose claim paired pairsOf clipTests weighedAnswer positionRows isCd clipFrom roundOf filled ones squaresTo clipOf anyRejected determinantOf inverseOf squareOf rootOf sumsTo magnitudeOf powerOf pivotRow eliminateFrom rowLess unknownsTo termAt valueTo
 table = record {
   p1-spine = refl;
   p1-hash = refl;

@@ -12,14 +12,7 @@ use Rattle.quad.specs.declared.Tried.{Tried}
 use Rattle.quad.specs.declared.Tried.the-variants as tried
 use Rattle.quad.specs.declared.Quads.the-variants as quads
 use Rattle.quad.specs.Quads.{quadOf, placesIn, allPlaces, quadPlaces, inputAnswer, answerAfter, quadsAnswer}
-use Rattle.quad.proofs.Laws.{at-most-4, has-room}
-
--- sets write at most four places each
-few-places : (xs ys : List Float) (least : Float) (l : List ℕ) → length (allPlaces xs ys least l) ≤ length l * 4
-few-places xs ys least [] = omega arith
-few-places xs ys least (s ∷ l) =
-    let q = quadOf xs ys least s in
-    omega (arith, length-append (placesIn q) (allPlaces xs ys least l), at-most-4 q, few-places xs ys least l)
+use Rattle.quad.proofs.Laws.{few-places, has-room}
 
 -- a quad writes four, and what is not kept none
 four-or-none : (q : Tried) → 4 * (length (placesIn q) / 4) ≡ length (placesIn q)

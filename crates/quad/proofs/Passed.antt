@@ -4,7 +4,7 @@ use mathlib.Core.Bool.{Bool, true, false, not, _&&_, _||_, true≢false}
 use mathlib.Core.List.{List, [], _∷_}
 use Prim.Native.Nat.{ℕ, zero, suc, _<_}
 use native.Mathlib.Omega.{arith}
-use borrow.Author.Tests.{eqb-true, not-false}
+use borrow.Author.Tests.{not-false}
 use lib.Dec.{T, ltb, eqb}
 use lib.ListN.{length, getD}
 use lib.Ieee.{Float, nan, inf, fin, ofBits, neg, le, lt, eq}
@@ -17,6 +17,7 @@ use Rattle.quad_stars.specs.Stars.{starsAnswer}
 use Rattle.quad_near.specs.Near.{nearest}
 use Rattle.quad_near.specs.Neighbours.{AllFinite, InOrder}
 use Rattle.quad_near.proofs.Nearest.{in-order}
+use Rattle.quad.proofs.Laws.{stars-like}
 
 -- a position is finite
 position-finite : (x : Float) → isPosition x ≡ true → T (finite x)
@@ -44,7 +45,7 @@ finite-stars xs ys h =
     let a = passed (ltb 100 (length xs) || ltb 100 (length ys)) refusal.Count _ h .1 in
     let b = passed (not (eqb (length xs) (length ys))) refusal.Lengths _ a in
     let c = passed (not (every isPosition xs && every isPosition ys)) refusal.Value answer.Done (b .1) .0 in
-    let e : length xs ≡ length ys = eqb-true (length xs) (length ys) (not-false (eqb (length xs) (length ys)) (b .0)) in
+    let e = stars-like xs ys h .1 in
     let f = and-cases (every isPosition xs) (every isPosition ys) (not-false (every isPosition xs && every isPosition ys) c) in (
       λ i k. position-finite (getD xs i nan) (every-at isPosition xs (f .0) i k),
       λ i k. position-finite (getD ys i nan) (every-at isPosition ys (f .1) i (omega arith)),

@@ -3,16 +3,23 @@ use answer::Answer;
 use answer::Refusal;
 use quad_normal::Quad;
 use quad_normal::Scaled;
-use quad_stars::Four;
+use quad_spine::Spanned;
 ghost use mathlib.Core.Path.{_≡_};
-ghost use Prim.Native.Nat.{_+_, _<_, _≤_};
+ghost use Prim.Native.Nat.{_+_, _≤_, min};
+ghost use lib.Dec.{leb};
 ghost use lib.ListN.{length, take};
 ghost use lib.Seq.{sets};
+ghost use Rattle.quad_stars.specs.Stars.{distSq};
+ghost use Rattle.quad_lists.specs.Lists.{listed};
 ghost use Rattle.quad.specs.Quads.{fourOf, triedOf, quadOf, placesIn, hashIn, allPlaces, allHashes, inputAnswer, quadPlaces};
 ghost use Rattle.quad.specs.Quads.{quadHashes, roomAnswer, quadsAnswer, lentAfterQuads};
+ghost use Rattle.quad.specs.Steps.{spanIn, Among, Sets, Seeds, Written};
 
 // The most neighbours of a seed.
 const MOST_NEIGHBOURS: usize = 10;
+
+// The most places that the quads of one seed write: ten neighbours have 120 sets of three.
+const MOST_PLACES: usize = 480;
 
 // The answer of neighbor_quads: how many quads were written.
 pub enum Quads {
@@ -27,25 +34,27 @@ enum Tried {
     Degenerate,
 }
 
-// The four stars of a visited set, the spine first.
-fn four_of(xs: &[f64], ys: &[f64], s: u32) -> Four
-    ensures { λ r. ⌜ r ≡ fourOf (now (xs .entry)) (now (ys .entry)) s ⌝ }
+// The four stars of a visited set, the spine first, and the squared spine.
+fn four_of(xs: &[f64], ys: &[f64], s: u32) -> Spanned
+    requires { ⌜ Among (now xs) (now ys) s ⌝ }
+    ensures { λ r. ⌜ (r .stars ≡ fourOf (now (xs .entry)) (now (ys .entry)) s) × (r .span ≡ spanIn (now (xs .entry)) (now (ys .entry)) s) ⌝ }
 {
-    let p = quad_stars::star_at(xs, ys, (s / 16777216 % 256) as u8);
-    let q = quad_stars::star_at(xs, ys, (s / 65536 % 256) as u8);
-    let r = quad_stars::star_at(xs, ys, (s / 256 % 256) as u8);
-    let t = quad_stars::star_at(xs, ys, (s % 256) as u8);
+    let p = quad_stars::star_in(xs, ys, (s / 16777216 % 256) as u8);
+    let q = quad_stars::star_in(xs, ys, (s / 65536 % 256) as u8);
+    let r = quad_stars::star_in(xs, ys, (s / 256 % 256) as u8);
+    let t = quad_stars::star_in(xs, ys, (s % 256) as u8);
     quad_spine::spine_of(p, q, r, t)
 }
 
-// Four stars with their spine first, tried: too short, degenerate, or a quad.
-fn tried_of(least: f64, f: Four) -> Tried
-    ensures { λ r. ⌜ r ≡ triedOf least f ⌝ }
+// Four stars with their spine first, tried by its square: too short, degenerate, or a quad.
+fn tried_of(least: f64, f: Spanned) -> Tried
+    requires { ⌜ f .span ≡ distSq (f .stars .a) (f .stars .b) ⌝ }
+    ensures { λ r. ⌜ r ≡ triedOf least (f .stars) ⌝ }
 {
-    if quad_stars::dist_sq(f.a, f.b) < least {
+    if f.span < least {
         return Tried::Short;
     }
-    match quad_normal::normalize(f) {
+    match quad_normal::normalize(f.span, f.stars) {
         Scaled::Hash(quad) => Tried::Kept(quad),
         Scaled::Degenerate => Tried::Degenerate,
     }
@@ -53,31 +62,48 @@ fn tried_of(least: f64, f: Four) -> Tried
 
 // The visited set s, tried.
 fn quad_of(xs: &[f64], ys: &[f64], least: f64, s: u32) -> Tried
+    requires { ⌜ Among (now xs) (now ys) s ⌝ }
     ensures { λ r. ⌜ r ≡ quadOf (now (xs .entry)) (now (ys .entry)) least s ⌝ }
 {
     tried_of(least, four_of(xs, ys, s))
 }
 
-// How many places it writes, and as many numbers.
-fn size_of(q: Tried) -> usize
-    ensures { λ r. ⌜ r ≡ length (placesIn q) ⌝ }
+// The squared spine of the visited set s.
+fn span_of(xs: &[f64], ys: &[f64], s: u32) -> f64
+    requires { ⌜ Among (now xs) (now ys) s ⌝ }
+    ensures { λ r. ⌜ r ≡ spanIn (now (xs .entry)) (now (ys .entry)) s ⌝ }
 {
-    match q {
-        Tried::Kept(_) => 4,
-        Tried::Short => 0,
-        Tried::Degenerate => 0,
+    let p = quad_stars::star_in(xs, ys, (s / 16777216 % 256) as u8);
+    let q = quad_stars::star_in(xs, ys, (s / 65536 % 256) as u8);
+    let r = quad_stars::star_in(xs, ys, (s / 256 % 256) as u8);
+    let t = quad_stars::star_in(xs, ys, (s % 256) as u8);
+    quad_spine::span_of(p, q, r, t)
+}
+
+// How many places the visited set s writes, and as many numbers: its squared spine tells.
+fn size_of(xs: &[f64], ys: &[f64], least: f64, s: u32) -> usize
+    requires { ⌜ Among (now xs) (now ys) s ⌝ }
+    ensures { λ r. ⌜ r ≡ length (placesIn (quadOf (now (xs .entry)) (now (ys .entry)) least s)) ⌝ }
+{
+    let span = span_of(xs, ys, s);
+    if span < least {
+        return 0;
     }
+    if span < Quad::LEAST_SCALE {
+        return 0;
+    }
+    4
 }
 
 // How many places the quads of the first n sets write.
 fn needed(xs: &[f64], ys: &[f64], least: f64, store: &[u32], n: usize) -> usize
-    requires { ⌜ n ≤ length (now store) ⌝ ∗ ⌜ n ≤ 12000 ⌝ }
+    requires { ⌜ Sets (now xs) (now ys) (now store) n ⌝ }
     ensures { λ r. ⌜ r ≡ length (allPlaces (now (xs .entry)) (now (ys .entry)) least (take n (now (store .entry)))) ⌝ }
 {
     let mut m = 0usize;
     let mut i = 0usize;
     while i < n {
-        m += size_of(quad_of(xs, ys, least, store[i]));
+        m += size_of(xs, ys, least, store[i]);
         i += 1;
     }
     m
@@ -107,8 +133,8 @@ fn write_one(places: &mut [u8], hashes: &mut [f64], p: usize, q: Tried) -> usize
     }
 }
 
-// Writes the quads of the first n sets.
-fn write_all(
+// Writes the quads of the first n sets from p on, and says where the next one goes.
+fn write_sets(
     xs: &[f64],
     ys: &[f64],
     least: f64,
@@ -116,20 +142,92 @@ fn write_all(
     n: usize,
     places: &mut [u8],
     hashes: &mut [f64],
+    p: usize,
 ) -> usize
-    requires { ⌜ n ≤ length (now store) ⌝
-        ∗ ⌜ length (allPlaces (now xs) (now ys) least (take n (now store))) ≤ length (now places) ⌝
-        ∗ ⌜ length (allPlaces (now xs) (now ys) least (take n (now store))) ≤ length (now hashes) ⌝ }
-    ensures { λ r. ⌜ (now (places .exit) ≡ sets (now (places .entry)) 0 (allPlaces (now (xs .entry)) (now (ys .entry)) least (take n (now (store .entry)))))
-        × (now (hashes .exit) ≡ sets (now (hashes .entry)) 0 (allHashes (now (xs .entry)) (now (ys .entry)) least (take n (now (store .entry))))) ⌝ }
+    requires { ⌜ Sets (now xs) (now ys) (now store) n ⌝
+        ∗ ⌜ p + length (allPlaces (now xs) (now ys) least (take n (now store))) ≤ length (now places) ⌝
+        ∗ ⌜ p + length (allPlaces (now xs) (now ys) least (take n (now store))) ≤ length (now hashes) ⌝ }
+    ensures { λ r. ⌜ Written (now (xs .entry)) (now (ys .entry)) least (take n (now (store .entry)))
+        p r (now (places .entry)) (now (hashes .entry)) (now (places .exit)) (now (hashes .exit)) ⌝ }
 {
-    let mut p = 0usize;
+    let mut at = p;
     let mut i = 0usize;
     while i < n {
-        p = write_one(places, hashes, p, quad_of(xs, ys, least, store[i]));
+        at = write_one(places, hashes, at, quad_of(xs, ys, least, store[i]));
         i += 1;
     }
+    at
+}
+
+// How many places the quads of all seeds write.
+fn needed_all(xs: &[f64], ys: &[f64], least: f64, lists: &[u8], words: &[u64], c: usize) -> usize
+    requires { ⌜ Seeds (now xs) (now ys) c (now lists) (now words) ⌝ }
+    ensures { λ r. ⌜ r ≡ length (allPlaces (now (xs .entry)) (now (ys .entry)) least (listed (now (lists .entry)) c (length (now (xs .entry))))) ⌝ }
+{
+    let mut store = [0u32; 120];
+    let mut m = 0usize;
+    let mut seed = 0usize;
+    while seed < xs.len() {
+        let n = quad_lists::sets_of(&mut store, lists, words, xs.len(), c, seed);
+        m += needed(xs, ys, least, &store, n);
+        seed += 1;
+    }
+    m
+}
+
+// Whether a list of so many places has room for the quads of all seeds. They are counted only where it
+// might have too little.
+fn has_room(
+    xs: &[f64],
+    ys: &[f64],
+    least: f64,
+    lists: &[u8],
+    words: &[u64],
+    c: usize,
+    room: usize,
+) -> bool
+    requires { ⌜ Seeds (now xs) (now ys) c (now lists) (now words) ⌝ }
+    ensures { λ r. ⌜ r ≡ leb (length (allPlaces (now (xs .entry)) (now (ys .entry)) least (listed (now (lists .entry)) c (length (now (xs .entry)))))) room ⌝ }
+{
+    if MOST_PLACES * xs.len() <= room {
+        return true;
+    }
+    needed_all(xs, ys, least, lists, words, c) <= room
+}
+
+// Writes the quads of all seeds, and says how many places they are.
+fn write_all(
+    xs: &[f64],
+    ys: &[f64],
+    least: f64,
+    lists: &[u8],
+    words: &[u64],
+    c: usize,
+    places: &mut [u8],
+    hashes: &mut [f64],
+) -> usize
+    requires { ⌜ Seeds (now xs) (now ys) c (now lists) (now words) ⌝
+        ∗ ⌜ length (allPlaces (now xs) (now ys) least (listed (now lists) c (length (now xs)))) ≤ length (now places) ⌝
+        ∗ ⌜ length (allPlaces (now xs) (now ys) least (listed (now lists) c (length (now xs)))) ≤ length (now hashes) ⌝ }
+    ensures { λ r. ⌜ Written (now (xs .entry)) (now (ys .entry)) least (listed (now (lists .entry)) c (length (now (xs .entry))))
+        0 r (now (places .entry)) (now (hashes .entry)) (now (places .exit)) (now (hashes .exit)) ⌝ }
+{
+    let mut store = [0u32; 120];
+    let mut p = 0usize;
+    let mut seed = 0usize;
+    while seed < xs.len() {
+        let n = quad_lists::sets_of(&mut store, lists, words, xs.len(), c, seed);
+        p = write_sets(xs, ys, least, &store, n, places, hashes, p);
+        seed += 1;
+    }
     p
+}
+
+// The lesser of two numbers.
+fn lesser(a: usize, b: usize) -> usize
+    ensures { λ r. ⌜ r ≡ min a b ⌝ }
+{
+    if a < b { a } else { b }
 }
 
 // The tests of the input, in their order.
@@ -151,7 +249,7 @@ fn check_input(xs: &[f64], ys: &[f64], k: usize, least: f64) -> Answer
     }
 }
 
-// The quads of an input that passed its tests: counted first, so that nothing is written without room.
+// The quads of an input that passed its tests. Nothing is written without room for all.
 fn put_quads(
     xs: &[f64],
     ys: &[f64],
@@ -160,22 +258,27 @@ fn put_quads(
     places: &mut [u8],
     hashes: &mut [f64],
 ) -> Quads
-    requires { ⌜ (k ≤ 10) × (length (now xs) ≤ 100) ⌝ }
+    requires { ⌜ (k ≤ 10) × (length (now xs) ≤ 100) × (length (now ys) ≡ length (now xs)) ⌝ }
     ensures { λ r. ⌜ (r ≡ roomAnswer
         (length (quadPlaces (now (xs .entry)) (now (ys .entry)) k least)) (length (now (places .entry))) (length (now (hashes .entry))))
         × (now (places .exit) ≡ lentAfterQuads r (quadPlaces (now (xs .entry)) (now (ys .entry)) k least) (now (places .entry)))
         × (now (hashes .exit) ≡ lentAfterQuads r (quadHashes (now (xs .entry)) (now (ys .entry)) k least) (now (hashes .entry))) ⌝ }
 {
-    let mut store = [0u32; 12000];
-    let n = quad_visit::visit_all(&mut store, xs, ys, k);
-    let m = needed(xs, ys, least, &store, n);
-    if places.len() < m {
+    let mut lists = [0u8; 1000];
+    let mut words = [0u64; 200];
+    let c = quad_lists::put_lists(&mut lists, &mut words, xs, ys, k);
+    if !has_room(
+        xs,
+        ys,
+        least,
+        &lists,
+        &words,
+        c,
+        lesser(places.len(), hashes.len()),
+    ) {
         return Quads::Refused(Refusal::Room);
     }
-    if hashes.len() < m {
-        return Quads::Refused(Refusal::Room);
-    }
-    write_all(xs, ys, least, &store, n, places, hashes);
+    let m = write_all(xs, ys, least, &lists, &words, c, places, hashes);
     Quads::Found(m / 4)
 }
 

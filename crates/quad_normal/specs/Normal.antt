@@ -49,10 +49,9 @@ hashOf cx cy dx dy f =
 unfoldable pub leastScale : Float
 leastScale = ofBits binary64 0x39b4_484b_feeb_c2a0
 
--- The hash of four stars whose spine is given, unless the squared spine is below the least.
-unfoldable pub normalOf : Four → Scaled
-normalOf f =
-    let scale = distSq (f .a) (f .b) in
+-- The hash of four stars whose spine is given, in parts of a scale, unless that is below the least.
+unfoldable pub scaledBy : Float → Four → Scaled
+scaledBy scale f =
     cond (lt scale leastScale) scaled.Degenerate
     (scaled.Hash
     (hashOf
@@ -61,6 +60,10 @@ normalOf f =
     (along (f .a) (f .b) (f .d) scale)
     (across (f .a) (f .b) (f .d) scale)
     f))
+
+-- The scale is the squared spine.
+unfoldable pub normalOf : Four → Scaled
+normalOf f = scaledBy (distSq (f .a) (f .b)) f
 
 -- A degenerate quad is number 8.
 abbrev pub scaledAnswer : Scaled → Normal

@@ -4,7 +4,7 @@ use answer::Refusal;
 use quad_stars::Four;
 use quad_stars::Star;
 ghost use mathlib.Core.Path.{_≡_};
-ghost use Rattle.quad_normal.specs.Normal.{along, across, cFirst, hashOf, normalOf, scaledAnswer, normalAnswer, normalNumber};
+ghost use Rattle.quad_normal.specs.Normal.{along, across, cFirst, hashOf, scaledBy, scaledAnswer, normalAnswer, normalNumber};
 
 // A quad: its hash, and the places of its stars.
 pub struct Quad {
@@ -112,11 +112,10 @@ fn hash_of(cx: f64, cy: f64, dx: f64, dy: f64, f: Four) -> Quad
     }
 }
 
-// The hash of four stars whose spine is given, unless it is degenerate.
-pub fn normalize(f: Four) -> Scaled
-    ensures { λ r. ⌜ r ≡ normalOf f ⌝ }
+// The hash of four stars whose spine is given, by its square, unless that is degenerate.
+pub fn normalize(scale: f64, f: Four) -> Scaled
+    ensures { λ r. ⌜ r ≡ scaledBy scale f ⌝ }
 {
-    let scale = quad_stars::dist_sq(f.a, f.b);
     if scale < Quad::LEAST_SCALE {
         return Scaled::Degenerate;
     }
@@ -143,6 +142,9 @@ pub fn normalize_quad_ordered(xs: &[f64], ys: &[f64], a: u8, b: u8, c: u8, d: u8
 {
     match quad_stars::check_four(xs, ys, a, b, c, d) {
         Answer::Refused(why) => Normal::Refused(why),
-        Answer::Done => answer_of(normalize(quad_stars::four_at(xs, ys, a, b, c, d))),
+        Answer::Done => {
+            let f = quad_stars::four_at(xs, ys, a, b, c, d);
+            answer_of(normalize(quad_stars::dist_sq(f.a, f.b), f))
+        }
     }
 }

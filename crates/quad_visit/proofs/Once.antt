@@ -10,33 +10,13 @@ use lib.ListN.{length, length-append}
 use Rattle.order.proofs.InTurn.{Each, InTurn, Apart, each-map, each-both, each-append, turn-last}
 use Rattle.quad_visit.specs.Visit.{memb, addNew, addAll}
 use Rattle.quad_visit.specs.Visits.{firstVisits}
-use Rattle.quad_visit.proofs.Laws.{or-assoc, or-false}
+use Rattle.quad_visit.proofs.Members.{or-assoc, or-false, or-right, memb-app}
 
--- ---- membership
-
-or-turn : (a b : Bool) → (a || b) ≡ (b || a)
-or-turn true true = refl
-or-turn true false = refl
-or-turn false true = refl
-or-turn false false = refl
-
-pub or-right : (a b : Bool) → b ≡ true → (a || b) ≡ true
-or-right true b e = refl
-or-right false b e = e
-
--- in one of two lists, one after the other
-pub memb-app : (s : ℕ) (a b : List ℕ) → memb s (a ++ b) ≡ (memb s a || memb s b)
-memb-app s [] b = refl
-memb-app s (x ∷ a) b = rw (memb-app s a b) (sym (or-assoc (eqb x s) (memb s a) (memb s b)))
-
--- what holds of each holds of a member
-pub each-member : (P : ℕ → Type 0) (l : List ℕ) → Each P l → (s : ℕ) → memb s l ≡ true → P s
-each-member P [] h s e = absurd (true≢false (sym e))
-each-member P (x ∷ l) h s e = go (eqb x s) refl e (each-member P l (h .1) s)
-  where
-    go : (b : Bool) → eqb x s ≡ b → (b || memb s l) ≡ true → (memb s l ≡ true → P s) → P s
-    go true t f more = subst P (eqb-true x s t) (h .0)
-    go false t f more = more f
+swap : (a b : Bool) → (a || b) ≡ (b || a)
+swap true true = refl
+swap true false = refl
+swap false true = refl
+swap false false = refl
 
 -- each is not s where s is no member
 others : (s : ℕ) (l : List ℕ) → memb s l ≡ false → Each (λ (x : ℕ). x ≡ s → ⊥) l
@@ -89,7 +69,7 @@ first-added l earlier (s ∷ ss) h = rw (← h s) (go (memb s l) refl (first-add
         turn false t = refl
 
     new : (u : ℕ) → memb u (l ++ (s ∷ [])) ≡ (eqb s u || memb u earlier)
-    new u = rw (memb-app u l (s ∷ []), h u, or-false (eqb s u)) (or-turn (memb u earlier) (eqb s u))
+    new u = rw (memb-app u l (s ∷ []), h u, or-false (eqb s u)) (swap (memb u earlier) (eqb s u))
 
     go : (b : Bool) → memb s l ≡ b
         → (((u : ℕ) → memb u l ≡ memb u (s ∷ earlier)) → addAll l ss ≡ l ++ firstVisits (s ∷ earlier) ss)

@@ -22,7 +22,8 @@ use Rattle.quad_visit.specs.Visit.{pack, thirds, seconds, firsts, fromSe
 use Rattle.quad_visit.specs.Visits.{FourBelow, VisitedSets}
 use Rattle.quad_visit.proofs.Laws.{sets-12000}
 use Rattle.quad_visit.proofs.Sets.{four-set}
-use Rattle.quad_visit.proofs.Once.{or-right, each-member, each-added, once-added, few-added, first-added, memb-added, at-most}
+use Rattle.quad_visit.proofs.Members.{or-right, each-member}
+use Rattle.quad_visit.proofs.Once.{each-added, once-added, few-added, first-added, memb-added, at-most}
 
 -- ---- each visit is of four different places
 module _ (n seed : ℕ) (sn : seed < n) where

@@ -6,7 +6,7 @@ use Rattle.answer.specs.Answers.{answerNumber, lentAfter}
 use Rattle.domain.specs.Domain.{every}
 use Rattle.quad_stars.specs.Stars.{starAt, fourAt, distSq, placesOf, starsAnswer, placesAnswer, fourAnswer}
 use Rattle.quad_spine.specs.Spine.{longer, longest, inOrder, oriented, spineOf, spineAnswer}
-use Rattle.quad_normal.specs.Normal.{leastScale, normalOf, normalAnswer}
+use Rattle.quad_normal.specs.Normal.{leastScale, scaledBy, normalOf, normalAnswer}
 use Rattle.spine_face.specs.Face.{spineFace, spineWritten, normalFace}
 
 -- 0.0
@@ -37,9 +37,9 @@ spine-in-three = refl
 
 -- a spine from a star to itself: number 7 where a list is short, else 8
 short-first : answerNumber (normalFace xs ys 1 1 0 2 4 3) ≡ 7
-unfolding normalAnswer fourAnswer starsAnswer placesAnswer every starAt fourAt distSq leastScale normalOf ofBits neg mul add sub lt eq le
+unfolding normalAnswer fourAnswer starsAnswer placesAnswer every starAt fourAt distSq leastScale scaledBy normalOf ofBits neg mul add sub lt eq le
 short-first = refl
 
 then-degenerate : answerNumber (normalFace xs ys 1 1 0 2 4 4) ≡ 8
-unfolding normalAnswer fourAnswer starsAnswer placesAnswer every starAt fourAt distSq leastScale normalOf ofBits neg mul add sub lt eq le
+unfolding normalAnswer fourAnswer starsAnswer placesAnswer every starAt fourAt distSq leastScale scaledBy normalOf ofBits neg mul add sub lt eq le
 then-degenerate = refl

@@ -1,12 +1,12 @@
 -- `quad::needed` meets its contract. Assumes nothing.
-use borrow.Author.Needs.{needs}
 use Prim.Native.Nat.{_+_, _-_, _*_, _≤_}
 use mathlib.Core.Path.{_≡_}
 use native.Mathlib.Omega.{arith}
-use lib.ListN.{length, take, drop, getD}
 use denote.Ref.{now}
+use lib.ListN.{length, getD, take, drop}
 use Rattle.quad.specs.Quads.{quadOf, allPlaces}
 use Rattle.quad.proofs.Laws.{at-most-4, count-more, count-end}
+use borrow.Author.Needs.{needs}
 use Rattle.quad.proofs.needed.Statement.{statement}
 use Rattle.quad.proofs.needed.Tie as tie
 
@@ -19,23 +19,21 @@ abbrev μ-loop : tie.MeasureT-loop
 loop-holds : tie.Need-loop-holds Inv-loop μ-loop
 loop-holds c = (omega arith, omega arith, omega arith)
 
-mul-quad-of : tie.Need-mul-quad-of Inv-loop μ-loop
-mul-quad-of c = omega (arith, c .before .before .before .before .before .pre)
+mul-size-of : tie.Need-mul-size-of Inv-loop μ-loop
+mul-size-of c = search needs
 
-shared-slice-read-quad-of : tie.Need-shared-slice-read-quad-of Inv-loop μ-loop
-shared-slice-read-quad-of c = search needs
-
-quad-of-requires : tie.Need-quad-of-requires Inv-loop μ-loop
-quad-of-requires c κs = search needs
+shared-slice-read-size-of : tie.Need-shared-slice-read-size-of Inv-loop μ-loop
+shared-slice-read-size-of c = search needs
 
 size-of-requires : tie.Need-size-of-requires Inv-loop μ-loop
-size-of-requires c κs = search needs
+size-of-requires c κs = c .before .before .before .before .before .before .pre .each (c .before .before .loop .i) (c .before .loop-test .taken)
 
 add-m : tie.Need-add-m Inv-loop μ-loop
 add-m c =
-    let q = at-most-4 (c .before .quad-of .result) in
-    let e = c .size-of .ensures in
-    omega (arith, c .before .before .before .before .loop .inv, c .before .before .before .before .before .before .before .before .pre)
+    let a = c .before .before .before .before .before .before .before .args in
+    let l = c .before .before .before .loop in
+    let q = at-most-4 (quadOf (now (a .xs)) (now (a .ys)) (a .least) (getD (now (a .store)) (l .i) 0)) in
+    omega (arith, c .size-of .ensures, l .inv, c .before .before .before .before .before .before .before .pre .few)
 
 add-i : tie.Need-add-i Inv-loop μ-loop
 add-i c = search needs
@@ -45,12 +43,11 @@ loop-less c = search needs
 
 loop-again : tie.Need-loop-again Inv-loop μ-loop
 loop-again c =
-    let a = c .before .before .before .before .before .before .before .before .args in
-    let l = c .before .before .before .before .loop in
+    let a = c .before .before .before .before .before .before .before .args in
+    let l = c .before .before .before .loop in
     let q = at-most-4 (quadOf (now (a .xs)) (now (a .ys)) (a .least) (getD (now (a .store)) (l .i) 0)) in
-    let e = rw (c .before .quad-of .ensures) at (c .size-of .ensures) in
-    let m = count-more (now (a .xs)) (now (a .ys)) (a .least) (now (a .store)) (a .n) (l .i) (c .before .before .before .loop-test .taken) (c .before .before .before .before .before .before .before .before .pre .0) in
-    (omega arith, omega (arith, l .inv), omega (arith, l .inv))
+    let m = count-more (now (a .xs)) (now (a .ys)) (a .least) (now (a .store)) (a .n) (l .i) (c .before .before .loop-test .taken) (c .before .before .before .before .before .before .before .pre .fits) in
+    (omega arith, omega (arith, c .size-of .ensures, l .inv), omega (arith, c .size-of .ensures, l .inv))
 
 returns : tie.Need-returns Inv-loop μ-loop
 returns c =
@@ -64,9 +61,8 @@ needed-spec =
     Inv-loop
     μ-loop
     loop-holds
-    mul-quad-of
-    shared-slice-read-quad-of
-    quad-of-requires
+    mul-size-of
+    shared-slice-read-size-of
     size-of-requires
     add-m
     add-i

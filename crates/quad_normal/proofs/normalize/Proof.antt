@@ -1,15 +1,12 @@
 -- `quad_normal::normalize` meets its contract: the test decides, then the calls give what the definition names. Assumes nothing.
-use Rattle.quad_normal.specs.Normal.{normalOf, leastScale}
+use Rattle.quad_normal.specs.Normal.{scaledBy, leastScale}
 use borrow.Author.Needs.{needs}
 use Rattle.quad_normal.proofs.normalize.Statement.{statement}
 use Rattle.quad_normal.proofs.normalize.Tie as tie
 
-dist-sq-requires : tie.Need-dist-sq-requires
-dist-sq-requires c κs = search needs
-
 returns : tie.Need-returns
-unfolding normalOf leastScale
-returns c = rw (← c .before .dist-sq .ensures, c .if1 .taken)
+unfolding scaledBy leastScale
+returns c = rw (c .if1 .taken)
 
 along-of-requires : tie.Need-along-of-requires
 along-of-requires c κs = search needs
@@ -27,10 +24,9 @@ hash-of-requires : tie.Need-hash-of-requires
 hash-of-requires c κs = search needs
 
 returns-2 : tie.Need-returns-2
-unfolding normalOf leastScale
+unfolding scaledBy leastScale
 returns-2 c =
     rw (
-      ← c .before .before .before .before .before .before .dist-sq .ensures,
       c .before .before .before .before .before .if1 .left,
       ← c .before .across-of2 .ensures,
       ← c .before .before .along-of2 .ensures,
@@ -43,7 +39,6 @@ pub normalize-spec : {M : Type 1} → statement M
 normalize-spec =
     tie.close
     (tie.spec
-    dist-sq-requires
     returns
     along-of-requires
     across-of-requires

@@ -1,0 +1,39 @@
+-- What the steps of the code have in hand, set by set and seed by seed. Definitions only.
+use mathlib.Core.Path.{_≡_}
+use mathlib.Core.List.{List}
+use Prim.Native.Nat.{ℕ, _+_, _≤_, _<_}
+use lib.ListN.{length, getD}
+use lib.Seq.{sets}
+use lib.Ieee.{Float}
+use Rattle.quad_stars.specs.Stars.{distSq}
+use Rattle.quad_visit.specs.Visits.{FourBelow}
+use Rattle.quad_visit.specs.Met.{newOf}
+use Rattle.quad_lists.specs.Lists.{rowsOf, Held}
+use Rattle.quad.specs.Quads.{fourOf, allPlaces, allHashes}
+
+-- the squared spine of a visited set
+abbrev pub spanIn : List Float → List Float → ℕ → Float
+spanIn xs ys s = distSq (fourOf xs ys s .a) (fourOf xs ys s .b)
+
+-- s is a set of four rising places of stars that are in both lists
+pub record Among (xs ys : List Float) (s : ℕ) : Type 0 where
+  pub alike : length ys ≡ length xs
+  pub most : length xs ≤ 100
+  pub four : FourBelow (length xs) s
+
+-- the first n sets of a store are such sets
+pub record Sets (xs ys : List Float) (store : List ℕ) (n : ℕ) : Type 0 where
+  pub fits : n ≤ length store
+  pub few : n ≤ 120
+  pub each : (i : ℕ) → i < n → Among xs ys (getD store i 0)
+
+-- the lists and words of the stars, by which each seed's new sets are such sets
+pub record Seeds (xs ys : List Float) (c : ℕ) (lists words : List ℕ) : Type 0 where
+  pub held : Held (length xs) c lists words
+  pub each : (seed i : ℕ) → seed < length xs → i < length (newOf (rowsOf lists c) seed) → Among xs ys (getD (newOf (rowsOf lists c) seed) i 0)
+
+-- the quads of a list of sets are written into both lists from p on, up to q
+pub record Written (xs ys : List Float) (least : Float) (ss : List ℕ) (p q : ℕ) (places : List ℕ) (hashes : List Float) (places' : List ℕ) (hashes' : List Float) : Type 0 where
+  pub next : q ≡ p + length (allPlaces xs ys least ss)
+  pub places-are : places' ≡ sets places p (allPlaces xs ys least ss)
+  pub hashes-are : hashes' ≡ sets hashes p (allHashes xs ys least ss)
