@@ -1,6 +1,6 @@
 -- The four stars of a visited set are those at its four rising places, which are places of the list; and the sets of each seed are such sets. Assumes nothing.
 use mathlib.Core.Path.{_≡_, refl, sym, _∙_, ap, subst}
-use mathlib.Core.Bool.{Bool, true, false}
+use mathlib.Core.Bool.{Bool, true, false, cond}
 use mathlib.Core.List.{List}
 use Prim.Native.Nat.{ℕ, zero, suc, _+_, _/_, _%_, _≤_, _<_}
 use native.Mathlib.Omega.{arith}
@@ -9,8 +9,10 @@ use lib.Dec.{eqb}
 use lib.ListN.{length, getD, take, length-take}
 use lib.Seq.{getD-take}
 use lib.Ieee.{Float}
-use Rattle.quad_stars.specs.Stars.{starAt}
-use Rattle.quad_spine.specs.Spine.{spineOf}
+use Rattle.quad_stars.specs.Stars.{starAt, four}
+use Rattle.quad_spine.specs.declared.Pair.{Pair}
+use Rattle.quad_spine.specs.declared.Pair.the-variants.{P01, P02, P03, P12, P13, P23}
+use Rattle.quad_spine.specs.Spine.{inOrder, oriented, spineOf}
 use Rattle.order.proofs.InTurn.{Each, each-at, each-left, each-right}
 use Rattle.quad_visit.specs.Visits.{FourBelow}
 use Rattle.quad_visit.specs.Met.{neighbours, newOf, newFrom}
@@ -19,7 +21,7 @@ use Rattle.quad_visit.proofs.Visited.{four-visited}
 use Rattle.quad_lists.specs.Lists.{rowsOf, Lists, listed}
 use Rattle.quad_lists.proofs.All.{listed-is}
 use Rattle.quad.specs.Quads.{fourOf}
-use Rattle.quad.specs.Steps.{Among, Sets, Seeds}
+use Rattle.quad.specs.Steps.{placeIn, shiftsOf, fourIn, Among, Sets, Seeds}
 
 -- of at most 256 stars
 pub stars-of-four : (xs ys : List Float) (n s : ℕ) → n ≤ 256 → (f : FourBelow n s)
@@ -42,6 +44,41 @@ bytes-below n s h f =
     let c : s / 256 % 256 ≡ f .c = ap (λ (l : List ℕ). getD l 2 0) e in
     let d : s % 256 ≡ f .d = ap (λ (l : List ℕ). getD l 3 0) e in
     rw (a, b, c, d) (omega (arith, f .ab, f .bc, f .cd, f .dn), omega (arith, f .bc, f .cd, f .dn), omega (arith, f .cd, f .dn), f .dn)
+
+-- and so are those that are found by the shifts of a pair, which name the stars of the four
+pub record Shifted (xs ys : List Float) (s : ℕ) (pair : Pair) : Type 0 where
+  pub fit : (shiftsOf pair / 16777216 < 32) × (shiftsOf pair / 65536 % 256 < 32) × (shiftsOf pair / 256 % 256 < 32) × (shiftsOf pair % 256 < 32)
+  pub a-below : placeIn s (shiftsOf pair / 16777216) < length xs
+  pub b-below : placeIn s (shiftsOf pair / 65536 % 256) < length xs
+  pub c-below : placeIn s (shiftsOf pair / 256 % 256) < length xs
+  pub d-below : placeIn s (shiftsOf pair % 256) < length xs
+  pub are : oriented (four (starAt xs ys (placeIn s (shiftsOf pair / 16777216))) (starAt xs ys (placeIn s (shiftsOf pair / 65536 % 256))) (starAt xs ys (placeIn s (shiftsOf pair / 256 % 256))) (starAt xs ys (placeIn s (shiftsOf pair % 256)))) ≡ fourIn xs ys s pair
+
+pub shifted : (xs ys : List Float) (s : ℕ) (pair : Pair) → Among xs ys s → Shifted xs ys s pair
+shifted xs ys s pair h = go pair (bytes-below (length xs) s (omega (arith, h .most)) (h .four))
+  where
+    down-24 : s / 1 % 256 ≡ s % 256
+    down-24 = omega arith
+
+    go : (pair : Pair) → (s / 16777216 % 256 < length xs) × (s / 65536 % 256 < length xs) × (s / 256 % 256 < length xs) × (s % 256 < length xs) → Shifted xs ys s pair
+    go P01 b = record { fit = (omega arith, omega arith, omega arith, omega arith); a-below = b .0; b-below = b .1; c-below = b .2; d-below = rw down-24 (b .3); are = rw down-24 }
+    go P02 b = record { fit = (omega arith, omega arith, omega arith, omega arith); a-below = b .0; b-below = b .2; c-below = b .1; d-below = rw down-24 (b .3); are = rw down-24 }
+    go P03 b = record { fit = (omega arith, omega arith, omega arith, omega arith); a-below = b .0; b-below = rw down-24 (b .3); c-below = b .1; d-below = b .2; are = rw down-24 }
+    go P12 b = record { fit = (omega arith, omega arith, omega arith, omega arith); a-below = b .1; b-below = b .2; c-below = b .0; d-below = rw down-24 (b .3); are = rw down-24 }
+    go P13 b = record { fit = (omega arith, omega arith, omega arith, omega arith); a-below = b .1; b-below = rw down-24 (b .3); c-below = b .0; d-below = b .2; are = rw down-24 }
+    go P23 b = record { fit = (omega arith, omega arith, omega arith, omega arith); a-below = b .2; b-below = rw down-24 (b .3); c-below = b .0; d-below = b .1; are = rw down-24 }
+
+-- the first two in order, chosen by their places
+pub chosen : (xs ys : List Float) (a b c d : ℕ) (first : Bool) → first ≡ inOrder (starAt xs ys a) (starAt xs ys b)
+    → four (starAt xs ys (cond first a b)) (starAt xs ys (cond first b a)) (starAt xs ys c) (starAt xs ys d) ≡ oriented (four (starAt xs ys a) (starAt xs ys b) (starAt xs ys c) (starAt xs ys d))
+unfolding oriented
+chosen xs ys a b c d true e = rw (← e)
+chosen xs ys a b c d false e = rw (← e)
+
+-- either of two places is below n where both are
+pub either-below : (first : Bool) (a b n : ℕ) → a < n → b < n → cond first a b < n
+either-below true a b n h k = h
+either-below false a b n h k = k
 
 -- ---- seed by seed
 

@@ -22,7 +22,7 @@ use Rattle.quad_visit.proofs.Laws.{rest}
 use Rattle.quad.specs.declared.Tried.{Tried}
 use Rattle.quad.specs.declared.Tried.the-variants as tried
 use Rattle.quad.specs.declared.Quads.the-variants as quads
-use Rattle.quad.specs.Quads.{triedOf, quadOf, placesIn, hashIn, allPlaces, allHashes, quadPlaces, quadHashes, countAnswer, leastAnswer, inputAnswer, roomAnswer, lentAfterQuads}
+use Rattle.quad.specs.Quads.{triedOf, quadOf, placesIn, hashIn, allPlaces, allHashes, quadPlaces, quadHashes, roomAnswer, lentAfterQuads}
 use Rattle.quad.specs.Steps.{Written}
 
 pub sets-app : {A : Type 0} (l : List A) (i : ℕ) (vs ws : List A) → sets l i (vs ++ ws) ≡ sets (sets l i vs) (i + length vs) ws
@@ -67,11 +67,11 @@ pub seed-480 : (xs ys : List Float) (least : Float) (l : List ℕ) (n : ℕ) →
 seed-480 xs ys least l n h = omega (arith, few-places xs ys least (take n l), length-take n l)
 
 -- those of two lists, one after the other
-places-app : (xs ys : List Float) (least : Float) (a b : List ℕ) → allPlaces xs ys least (a ++ b) ≡ allPlaces xs ys least a ++ allPlaces xs ys least b
+pub places-app : (xs ys : List Float) (least : Float) (a b : List ℕ) → allPlaces xs ys least (a ++ b) ≡ allPlaces xs ys least a ++ allPlaces xs ys least b
 places-app xs ys least [] b = refl
 places-app xs ys least (s ∷ a) b = rw (places-app xs ys least a b) (sym (append-assoc (placesIn (quadOf xs ys least s)) (allPlaces xs ys least a) (allPlaces xs ys least b)))
 
-hashes-app : (xs ys : List Float) (least : Float) (a b : List ℕ) → allHashes xs ys least (a ++ b) ≡ allHashes xs ys least a ++ allHashes xs ys least b
+pub hashes-app : (xs ys : List Float) (least : Float) (a b : List ℕ) → allHashes xs ys least (a ++ b) ≡ allHashes xs ys least a ++ allHashes xs ys least b
 hashes-app xs ys least [] b = refl
 hashes-app xs ys least (s ∷ a) b = rw (hashes-app xs ys least a b) (sym (append-assoc (hashIn (quadOf xs ys least s)) (allHashes xs ys least a) (allHashes xs ys least b)))
 
@@ -199,10 +199,3 @@ stars-like xs ys h =
     let a = passed (ltb 100 (length xs) || ltb 100 (length ys)) refusal.Count _ h in
     let b = passed (not (eqb (length xs) (length ys))) refusal.Lengths _ (a .1) in
     (ltb-false 100 (length xs) (neither (ltb 100 (length xs)) (ltb 100 (length ys)) (a .0) .0), sym (eqb-true (length xs) (length ys) (not-false (eqb (length xs) (length ys)) (b .0))))
-
-pub within : (xs ys : List Float) (k : ℕ) (least : Float) → inputAnswer xs ys k least ≡ answer.Done → (k ≤ 10) × (length xs ≤ 100) × (length ys ≡ length xs)
-unfolding inputAnswer
-within xs ys k least h =
-    let a = both (countAnswer k) (first (starsAnswer xs ys) (leastAnswer least)) h in
-    let s = stars-like xs ys (both (starsAnswer xs ys) (leastAnswer least) (a .1) .0) in
-    (ltb-false 10 k (passed (ltb 10 k) refusal.Count answer.Done (a .0) .0), s .0, s .1)

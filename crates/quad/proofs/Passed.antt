@@ -1,22 +1,25 @@
--- Of stars that pass the tests of the input the neighbours come by squared distance, then by place. Assumes nothing.
+-- What an input that passes its tests is like: few stars and neighbours, and all numbers finite, so that neighbours come by squared distance, then by place. Assumes nothing.
 use mathlib.Core.Path.{_≡_, refl, sym}
 use mathlib.Core.Bool.{Bool, true, false, not, _&&_, _||_, true≢false}
 use mathlib.Core.List.{List, [], _∷_}
-use Prim.Native.Nat.{ℕ, zero, suc, _<_}
+use Prim.Native.Nat.{ℕ, zero, suc, _≤_, _<_}
 use native.Mathlib.Omega.{arith}
-use borrow.Author.Tests.{not-false}
+use borrow.Author.Tests.{ltb-false, not-false}
 use lib.Dec.{T, ltb, eqb}
 use lib.ListN.{length, getD}
 use lib.Ieee.{Float, nan, inf, fin, ofBits, neg, le, lt, eq}
 use lib.Ieee.Scale.{finite}
 use Rattle.answer.specs.declared.Refusal.the-variants as refusal
 use Rattle.answer.specs.declared.Answer.the-variants as answer
-use Rattle.answer.proofs.Passed.{passed}
+use Rattle.answer.specs.Answers.{first}
+use Rattle.answer.proofs.Passed.{passed, both}
 use Rattle.domain.specs.Domain.{isPosition, every}
 use Rattle.quad_stars.specs.Stars.{starsAnswer}
 use Rattle.quad_near.specs.Near.{nearest}
 use Rattle.quad_near.specs.Neighbours.{AllFinite, InOrder}
+use Rattle.quad_near.specs.Kept.{FiniteStars}
 use Rattle.quad_near.proofs.Nearest.{in-order}
+use Rattle.quad.specs.Quads.{countAnswer, leastAnswer, inputAnswer}
 use Rattle.quad.proofs.Laws.{stars-like}
 
 -- a position is finite
@@ -50,6 +53,16 @@ finite-stars xs ys h =
       λ i k. position-finite (getD xs i nan) (every-at isPosition xs (f .0) i k),
       λ i k. position-finite (getD ys i nan) (every-at isPosition ys (f .1) i (omega arith)),
     )
+
+-- and so has an input that passes its own
+pub within : (xs ys : List Float) (k : ℕ) (least : Float) → inputAnswer xs ys k least ≡ answer.Done → (k ≤ 10) × (length xs ≤ 100) × FiniteStars xs ys
+unfolding inputAnswer
+within xs ys k least h =
+    let a = both (countAnswer k) (first (starsAnswer xs ys) (leastAnswer least)) h in
+    let d = both (starsAnswer xs ys) (leastAnswer least) (a .1) .0 in
+    let s = stars-like xs ys d in
+    let f = finite-stars xs ys d in
+    (ltb-false 10 k (passed (ltb 10 k) refusal.Count answer.Done (a .0) .0), s .0, record { alike = s .1; x = f .0; y = f .1 })
 
 -- their neighbours come by squared distance and then by place, and before every star that is left out
 pub neighbours-in-order : (xs ys : List Float) (seed k : ℕ) → starsAnswer xs ys ≡ answer.Done → seed < length xs → InOrder xs ys seed (nearest xs ys seed k)

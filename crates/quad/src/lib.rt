@@ -3,17 +3,21 @@ use answer::Answer;
 use answer::Refusal;
 use quad_normal::Quad;
 use quad_normal::Scaled;
-use quad_spine::Spanned;
+use quad_spine::Apart;
+use quad_spine::Pair;
+use quad_stars::Four;
 ghost use mathlib.Core.Path.{_≡_};
-ghost use Prim.Native.Nat.{_+_, _≤_, min};
+ghost use mathlib.Core.Bool.{cond};
+ghost use Prim.Native.Nat.{_+_, _<_, _≤_, min};
 ghost use lib.Dec.{leb};
 ghost use lib.ListN.{length, take};
 ghost use lib.Seq.{sets};
-ghost use Rattle.quad_stars.specs.Stars.{distSq};
+ghost use Rattle.quad_near.specs.Kept.{FiniteStars};
+ghost use Rattle.quad_normal.specs.Normal.{scaledBy};
 ghost use Rattle.quad_lists.specs.Lists.{listed};
-ghost use Rattle.quad.specs.Quads.{fourOf, triedOf, quadOf, placesIn, hashIn, allPlaces, allHashes, inputAnswer, quadPlaces};
+ghost use Rattle.quad.specs.Quads.{fourOf, keptOf, quadOf, placesIn, hashIn, allPlaces, allHashes, inputAnswer, quadPlaces};
 ghost use Rattle.quad.specs.Quads.{quadHashes, roomAnswer, quadsAnswer, lentAfterQuads};
-ghost use Rattle.quad.specs.Steps.{spanIn, Among, Sets, Seeds, Written};
+ghost use Rattle.quad.specs.Steps.{spanIn, shiftsOf, placeIn, fourIn, Among, Sets, Seeds, Written};
 
 // The most neighbours of a seed.
 const MOST_NEIGHBOURS: usize = 10;
@@ -34,50 +38,92 @@ enum Tried {
     Degenerate,
 }
 
-// The four stars of a visited set, the spine first, and the squared spine.
-fn four_of(xs: &[f64], ys: &[f64], s: u32) -> Spanned
+// The longest pair of the four stars of a visited set, and its squared distance.
+fn longest_in(xs: &[f64], ys: &[f64], s: u32) -> Apart
     requires { ⌜ Among (now xs) (now ys) s ⌝ }
-    ensures { λ r. ⌜ (r .stars ≡ fourOf (now (xs .entry)) (now (ys .entry)) s) × (r .span ≡ spanIn (now (xs .entry)) (now (ys .entry)) s) ⌝ }
+    ensures { λ r. ⌜ (fourIn (now (xs .entry)) (now (ys .entry)) s (r .pair) ≡ fourOf (now (xs .entry)) (now (ys .entry)) s)
+        × (r .far ≡ spanIn (now (xs .entry)) (now (ys .entry)) s) ⌝ }
 {
     let p = quad_stars::star_in(xs, ys, (s / 16777216 % 256) as u8);
     let q = quad_stars::star_in(xs, ys, (s / 65536 % 256) as u8);
     let r = quad_stars::star_in(xs, ys, (s / 256 % 256) as u8);
     let t = quad_stars::star_in(xs, ys, (s % 256) as u8);
-    quad_spine::spine_of(p, q, r, t)
+    quad_spine::longest_pair(p, q, r, t)
 }
 
-// Four stars with their spine first, tried by its square: too short, degenerate, or a quad.
-fn tried_of(least: f64, f: Spanned) -> Tried
-    requires { ⌜ f .span ≡ distSq (f .stars .a) (f .stars .b) ⌝ }
-    ensures { λ r. ⌜ r ≡ triedOf least (f .stars) ⌝ }
+// Where the places of a set stand in its number, a pair of them first: a byte for each says by how many bits.
+fn shifts_of(pair: Pair) -> u32
+    ensures { λ r. ⌜ r ≡ shiftsOf pair ⌝ }
 {
-    if f.span < least {
-        return Tried::Short;
+    match pair {
+        Pair::P01 => 0x18_10_08_00,
+        Pair::P02 => 0x18_08_10_00,
+        Pair::P03 => 0x18_00_10_08,
+        Pair::P12 => 0x10_08_18_00,
+        Pair::P13 => 0x10_00_18_08,
+        Pair::P23 => 0x08_00_18_10,
     }
-    match quad_normal::normalize(f.span, f.stars) {
+}
+
+// The place of a set that stands so many bits up.
+fn place_in(s: u32, shift: u32) -> u8
+    requires { ⌜ shift < 32 ⌝ }
+    ensures { λ r. ⌜ r ≡ placeIn s shift ⌝ }
+{
+    ((s >> shift) % 256) as u8
+}
+
+// One of two places.
+fn either(first: bool, a: u8, b: u8) -> u8
+    ensures { λ r. ⌜ r ≡ cond first a b ⌝ }
+{
+    if first { a } else { b }
+}
+
+// The four stars of a visited set with a pair of them first, in order. They are read by their places anew: to
+// carry all four from the search for the pair would be a jump and forty moves.
+fn four_in(xs: &[f64], ys: &[f64], s: u32, pair: Pair) -> Four
+    requires { ⌜ Among (now xs) (now ys) s ⌝ }
+    ensures { λ r. ⌜ r ≡ fourIn (now (xs .entry)) (now (ys .entry)) s pair ⌝ }
+{
+    let shifts = shifts_of(pair);
+    let a = place_in(s, shifts / 16777216);
+    let b = place_in(s, shifts / 65536 % 256);
+    let c = place_in(s, shifts / 256 % 256);
+    let d = place_in(s, shifts % 256);
+    let first = quad_spine::in_order(
+        quad_stars::star_in(xs, ys, a),
+        quad_stars::star_in(xs, ys, b),
+    );
+    Four {
+        a: quad_stars::star_in(xs, ys, either(first, a, b)),
+        b: quad_stars::star_in(xs, ys, either(first, b, a)),
+        c: quad_stars::star_in(xs, ys, c),
+        d: quad_stars::star_in(xs, ys, d),
+    }
+}
+
+// Four stars with their spine first, whose square is at least the least: degenerate, or a quad.
+fn kept_of(span: f64, f: Four) -> Tried
+    ensures { λ r. ⌜ r ≡ keptOf (scaledBy span f) ⌝ }
+{
+    match quad_normal::normalize(span, f) {
         Scaled::Hash(quad) => Tried::Kept(quad),
         Scaled::Degenerate => Tried::Degenerate,
     }
 }
 
-// The visited set s, tried.
+// The visited set s, tried: too short, degenerate, or a quad.
 fn quad_of(xs: &[f64], ys: &[f64], least: f64, s: u32) -> Tried
     requires { ⌜ Among (now xs) (now ys) s ⌝ }
     ensures { λ r. ⌜ r ≡ quadOf (now (xs .entry)) (now (ys .entry)) least s ⌝ }
 {
-    tried_of(least, four_of(xs, ys, s))
-}
-
-// The squared spine of the visited set s.
-fn span_of(xs: &[f64], ys: &[f64], s: u32) -> f64
-    requires { ⌜ Among (now xs) (now ys) s ⌝ }
-    ensures { λ r. ⌜ r ≡ spanIn (now (xs .entry)) (now (ys .entry)) s ⌝ }
-{
-    let p = quad_stars::star_in(xs, ys, (s / 16777216 % 256) as u8);
-    let q = quad_stars::star_in(xs, ys, (s / 65536 % 256) as u8);
-    let r = quad_stars::star_in(xs, ys, (s / 256 % 256) as u8);
-    let t = quad_stars::star_in(xs, ys, (s % 256) as u8);
-    quad_spine::span_of(p, q, r, t)
+    let l = longest_in(xs, ys, s);
+    if l.far < least {
+        return Tried::Short;
+    }
+    let pair = l.pair;
+    kept_of(l.far, four_in(xs, ys, s, pair))
 }
 
 // How many places the visited set s writes, and as many numbers: its squared spine tells.
@@ -85,7 +131,8 @@ fn size_of(xs: &[f64], ys: &[f64], least: f64, s: u32) -> usize
     requires { ⌜ Among (now xs) (now ys) s ⌝ }
     ensures { λ r. ⌜ r ≡ length (placesIn (quadOf (now (xs .entry)) (now (ys .entry)) least s)) ⌝ }
 {
-    let span = span_of(xs, ys, s);
+    let l = longest_in(xs, ys, s);
+    let span = l.far;
     if span < least {
         return 0;
     }
@@ -162,7 +209,8 @@ fn write_sets(
 // How many places the quads of all seeds write.
 fn needed_all(xs: &[f64], ys: &[f64], least: f64, lists: &[u8], words: &[u64], c: usize) -> usize
     requires { ⌜ Seeds (now xs) (now ys) c (now lists) (now words) ⌝ }
-    ensures { λ r. ⌜ r ≡ length (allPlaces (now (xs .entry)) (now (ys .entry)) least (listed (now (lists .entry)) c (length (now (xs .entry))))) ⌝ }
+    ensures { λ r. ⌜ r ≡ length (allPlaces (now (xs .entry)) (now (ys .entry)) least
+        (listed (now (lists .entry)) c (length (now (xs .entry))))) ⌝ }
 {
     let mut store = [0u32; 120];
     let mut m = 0usize;
@@ -187,7 +235,8 @@ fn has_room(
     room: usize,
 ) -> bool
     requires { ⌜ Seeds (now xs) (now ys) c (now lists) (now words) ⌝ }
-    ensures { λ r. ⌜ r ≡ leb (length (allPlaces (now (xs .entry)) (now (ys .entry)) least (listed (now (lists .entry)) c (length (now (xs .entry)))))) room ⌝ }
+    ensures { λ r. ⌜ r ≡ leb (length (allPlaces (now (xs .entry)) (now (ys .entry)) least
+        (listed (now (lists .entry)) c (length (now (xs .entry)))))) room ⌝ }
 {
     if MOST_PLACES * xs.len() <= room {
         return true;
@@ -258,7 +307,7 @@ fn put_quads(
     places: &mut [u8],
     hashes: &mut [f64],
 ) -> Quads
-    requires { ⌜ (k ≤ 10) × (length (now xs) ≤ 100) × (length (now ys) ≡ length (now xs)) ⌝ }
+    requires { ⌜ (k ≤ 10) × (length (now xs) ≤ 100) × FiniteStars (now xs) (now ys) ⌝ }
     ensures { λ r. ⌜ (r ≡ roomAnswer
         (length (quadPlaces (now (xs .entry)) (now (ys .entry)) k least)) (length (now (places .entry))) (length (now (hashes .entry))))
         × (now (places .exit) ≡ lentAfterQuads r (quadPlaces (now (xs .entry)) (now (ys .entry)) k least) (now (places .entry)))

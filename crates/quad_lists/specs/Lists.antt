@@ -1,4 +1,4 @@
--- The neighbours of all stars as they are held: ten bytes to a star, and two words to a star, whose bits tell which places are among them. Definitions only.
+-- The neighbours of all stars as they are held: ten bytes to a star, and two words of bits. Definitions only.
 use Prim.Native.Nat.{ℕ, _+_, _*_, _/_, _%_, _^_, _≤_, _<_}
 use mathlib.Core.Path.{_≡_}
 use mathlib.Core.Bool.{Bool, true, _&&_}

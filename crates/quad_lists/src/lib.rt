@@ -5,7 +5,7 @@ ghost use Prim.Native.Nat.{ℕ, _+_, _-_, _*_, _<_, _≤_, min};
 ghost use lib.Dec.{eqb};
 ghost use lib.ListN.{length, take, getD};
 ghost use Rattle.quad_near.specs.Near.{nearest};
-ghost use Rattle.quad_near.specs.Kept.{Seeded};
+ghost use Rattle.quad_near.specs.Kept.{FiniteStars};
 ghost use Rattle.quad_visit.specs.Visit.{memb};
 ghost use Rattle.quad_visit.specs.Met.{neighbours, newOf};
 ghost use Rattle.quad_visit.specs.Ranks.{cell};
@@ -55,7 +55,8 @@ fn put_words(words: &mut [u64], p: usize, list: &[u8])
 
 // The neighbours of star p, put into its ten bytes and its two words. Those of the stars before it stay.
 fn put_star(lists: &mut [u8], words: &mut [u64], xs: &[f64], ys: &[f64], p: usize, k: usize)
-    requires { ⌜ Seeded (now xs) (now ys) p × (length (now xs) ≤ 100) × (k ≤ 10) × (length (now lists) ≡ 1000) × (length (now words) ≡ 200) ⌝ }
+    requires { ⌜ FiniteStars (now xs) (now ys) × (p < length (now xs)) × (length (now xs) ≤ 100) × (k ≤ 10)
+        × (length (now lists) ≡ 1000) × (length (now words) ≡ 200) ⌝ }
     ensures { λ _. ⌜ (rowsOf (now (lists .exit)) (min k (length (now (xs .entry)) - 1)) p ≡ nearest (now (xs .entry)) (now (ys .entry)) p k)
         × ((q : ℕ) → q < 128 → bitAt (now (words .exit)) p q ≡ memb q (nearest (now (xs .entry)) (now (ys .entry)) p k))
         × ((j c : ℕ) → j < p → c ≤ 10 → rowsOf (now (lists .exit)) c j ≡ rowsOf (now (lists .entry)) c j)
@@ -70,8 +71,10 @@ fn put_star(lists: &mut [u8], words: &mut [u64], xs: &[f64], ys: &[f64], p: usiz
 
 // The neighbours of all stars. The result is how many each has.
 pub fn put_lists(lists: &mut [u8], words: &mut [u64], xs: &[f64], ys: &[f64], k: usize) -> usize
-    requires { ⌜ (length (now ys) ≡ length (now xs)) × (length (now xs) ≤ 100) × (k ≤ 10) × (length (now lists) ≡ 1000) × (length (now words) ≡ 200) ⌝ }
-    ensures { λ c. ⌜ Lists (neighbours (now (xs .entry)) (now (ys .entry)) k) (length (now (xs .entry))) c (now (lists .exit)) (now (words .exit)) ⌝ }
+    requires { ⌜ FiniteStars (now xs) (now ys) × (length (now xs) ≤ 100) × (k ≤ 10)
+        × (length (now lists) ≡ 1000) × (length (now words) ≡ 200) ⌝ }
+    ensures { λ c. ⌜ Lists (neighbours (now (xs .entry)) (now (ys .entry)) k) (length (now (xs .entry))) c
+        (now (lists .exit)) (now (words .exit)) ⌝ }
 {
     let mut p = 0usize;
     while p < xs.len() {
@@ -95,7 +98,8 @@ fn is_near(words: &[u64], p: u8, q: u8) -> bool
 fn put_row(cells: &mut [bool], a: usize, words: &[u64], p: u8, on: bool, near: &[u8])
     requires { ⌜ (length (now cells) ≡ 100) × (a < 10) × (length (now words) ≡ 200) × (p < 100) × (length (now near) ≤ 10)
         × ((b : ℕ) → b < length (now near) → getD (now near) b 0 < 100) ⌝ }
-    ensures { λ _. ⌜ ((b : ℕ) → b < length (now (near .entry)) → cell (now (cells .exit)) a b ≡ (on && bitAt (now (words .entry)) p (getD (now (near .entry)) b 0)))
+    ensures { λ _. ⌜ ((b : ℕ) → b < length (now (near .entry))
+        → cell (now (cells .exit)) a b ≡ (on && bitAt (now (words .entry)) p (getD (now (near .entry)) b 0)))
         × ((j : ℕ) → j < a * 10 → getD (now (cells .exit)) j false ≡ getD (now (cells .entry)) j false) ⌝ }
 {
     let mut b = 0usize;

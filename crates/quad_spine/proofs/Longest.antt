@@ -6,9 +6,7 @@ use Rattle.quad_stars.specs.declared.Star.{Star}
 use Rattle.quad_stars.specs.declared.Four.{Four}
 use Rattle.quad_stars.specs.Stars.{four, distSq}
 use Rattle.quad_stars.proofs.Turned.{turned}
-use Rattle.quad_spine.specs.declared.Spanned.{Spanned}
 use Rattle.quad_spine.specs.Spine.{longer, longest, inOrder, oriented, spineOf}
-use Rattle.quad_spine.specs.Steps.{spannedOf}
 use Rattle.order.proofs.Floats.{lt-trans, lt-irrefl}
 
 -- the squared distance of the first two stars
@@ -92,30 +90,6 @@ oriented-span f = go (inOrder (f .a) (f .b))
     go true = refl
     go false = turned (f .b) (f .a)
 
--- the four that is found, put in order, with the span that was found
-pub spanned : (p q r s : Star) (f : Four) (v : Float) → f ≡ oriented (longest p q r s) → v ≡ spanOf (longest p q r s) → _≡_ {A = Spanned} (record { stars = f; span = v }) (spannedOf p q r s)
-unfolding spannedOf spineOf
-spanned p q r s f v e h = rw (e, h, oriented-span (longest p q r s))
-
 pub spine-longest : (p q r s : Star) → Greatest (spanOf (spineOf p q r s)) p q r s
 unfolding spineOf
 spine-longest p q r s = rw (oriented-span (longest p q r s)) (longest-greatest p q r s)
-
--- ---- the span alone
-
-abbrev more : Float → Float → Float
-more a b = cond (lt a b) b a
-
-longer-span : (f g : Four) → spanOf (longer f g) ≡ more (spanOf f) (spanOf g)
-unfolding longer
-longer-span f g = go (lt (spanOf f) (spanOf g))
-  where
-    go : (b : Bool) → spanOf (cond b g f) ≡ cond b (spanOf g) (spanOf f)
-    go true = refl
-    go false = refl
-
-pub span-is : (p q r s : Star) → more (more (more (more (more (distSq p q) (distSq p r)) (distSq p s)) (distSq q r)) (distSq q s)) (distSq r s) ≡ distSq (spineOf p q r s .a) (spineOf p q r s .b)
-unfolding spineOf longest
-span-is p q r s =
-    sym (oriented-span (longest p q r s)
-    ∙ rw (longer-span (of-five p q r s) (four r s p q), longer-span (of-four p q r s) (four q s p r), longer-span (of-three p q r s) (four q r p s), longer-span (of-two p q r s) (four p s q r), longer-span (four p q r s) (four p r q s)))

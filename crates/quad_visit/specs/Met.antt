@@ -15,7 +15,8 @@ neighbours xs ys k p = nearest xs ys p k
 unfoldable pub metAt : (ℕ → List ℕ) → ℕ → ℕ → ℕ → ℕ → Bool
 metAt near seed p q r = ltb p seed && (memb seed (near p) && (memb q (near p) && memb r (near p)))
 
--- whether the set of a seed and three of its neighbours was met before: a member with a smaller place than the seed has the other three among its neighbours
+-- whether the set of a seed and three of its neighbours was met before:
+-- a member with a smaller place than the seed has the other three among its neighbours
 unfoldable pub met : (ℕ → List ℕ) → ℕ → ℕ → ℕ → ℕ → Bool
 met near seed p q r = metAt near seed p q r || (metAt near seed q p r || metAt near seed r p q)
 

@@ -1,4 +1,4 @@
--- The new sets of a seed by the ranks of its neighbours: a table says of two ranks whether the star of the first, below the seed, has the seed and the star of the second among its neighbours. Definitions only.
+-- The new sets of a seed by the ranks of its neighbours and a table of each two of them. Definitions only.
 use Prim.Native.Nat.{ℕ, zero, suc, _+_, _-_, _*_, _<_}
 use mathlib.Core.Path.{_≡_}
 use mathlib.Core.Bool.{Bool, false, cond, _||_, _&&_}

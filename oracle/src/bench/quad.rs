@@ -6,7 +6,7 @@ use std::hint::black_box;
 
 use celestial_catalog::query::{self, QuadStar};
 
-use super::Row;
+use super::{Row, medians, ratio_of, whole};
 use crate::random::Random;
 use crate::stars::Stars;
 use crate::{ours, theirs};
@@ -144,9 +144,60 @@ fn walk(n: u32) -> usize {
     std::iter::from_fn(step).count()
 }
 
+/// How the quads grow with the stars and with the neighbours: with room for all that there may be,
+/// and with just as much as they take, so that they are counted first.
+pub fn tables(random: &mut Random) -> Vec<String> {
+    let heads = [
+        "stars",
+        "k",
+        "quads",
+        "ns",
+        "just enough room, ns",
+        "the Rust, ns",
+        "ns / the Rust",
+        "just enough / the Rust",
+    ];
+    let mut lines = vec![format!("| {} |", heads.join(" | "))];
+    lines.push(format!("|{}", "--:|".repeat(heads.len())));
+    let of_stars = [4, 14, 25, 50, 75, 100].map(|n| (n, 10));
+    let of_neighbours = [9, 8, 7, 6, 5, 4, 3].map(|k| (100, k));
+    for (n, k) in of_stars.into_iter().chain(of_neighbours) {
+        lines.push(line(&stars_in(random, n), k));
+    }
+    lines
+}
+
+fn line(stars: &Stars, k: u32) -> String {
+    let theirs = stars_of(stars);
+    let quads = query::neighbor_quads(&theirs, k as usize, 0.0).len();
+    let lists = [theirs];
+    let rust =
+        Row::over("", "", &lists, move |stars| query::neighbor_quads(stars, k as usize, 0.0));
+    let rows = medians(&[quads_row(stars, k, 48_000), quads_row(stars, k, 4 * quads), rust]);
+    let [ample, exact, rust] = [0, 1, 2].map(|place| rows[place][0].expect("each is timed"));
+    let counts = [stars.xs.len(), k as usize, quads].map(|count| whole(count as f64));
+    let times = [ample, exact, rust].map(whole);
+    let ratios = [ample / rust, exact / rust].map(ratio_of);
+    format!("| {} | {} | {} |", counts.join(" | "), times.join(" | "), ratios.join(" | "))
+}
+
+fn quads_row(stars: &Stars, k: u32, room: usize) -> Row {
+    let outputs = RefCell::new((vec![0; room], vec![0.0; room], 0));
+    Row::over("", "", &[stars.clone()], move |stars| {
+        let (places, hashes, quads) = &mut *outputs.borrow_mut();
+        ours::neighbor_quads(&stars.xs, &stars.ys, k, 0.0, places, hashes, quads);
+        black_box((places, hashes));
+    })
+}
+
 /// A hundred stars of a picture.
 fn field(random: &mut Random) -> Stars {
-    let mut list = || (0..100).map(|_| random.between(0.0, 4096.0)).collect();
+    stars_in(random, 100)
+}
+
+/// So many stars of a picture.
+fn stars_in(random: &mut Random, n: usize) -> Stars {
+    let mut list = || (0..n).map(|_| random.between(0.0, 4096.0)).collect();
     Stars { xs: list(), ys: list() }
 }
 

@@ -22,10 +22,10 @@ pub const GROUP: Group = Group {
         DISCRETE_HASH_KEY,
         DISCRETE_HASH_KEY_NEIGHBORS,
     ],
-    also: &[WHOLE_LISTS],
+    also: &[WHOLE_LISTS, LONGER_LISTS],
     notes: |_| Vec::new(),
     bench: bench::quad::rows,
-    tables: |_| Vec::new(),
+    tables: bench::quad::tables,
 };
 
 /// What a lent output holds before the call.
@@ -462,6 +462,10 @@ const NEIGHBOR_QUADS: Call = Call {
         let circle = stars::figures().into_iter().max_by_key(|stars| stars.xs.len()).unwrap();
         let most = room_for(&circle, 10, 0.0);
         cases.push(quads_case(&circle, 10, 0.0, (most + 3, most + 1)));
+        // places above 63 and neighbours on both sides of it
+        let full = Stars::counted(100, 100);
+        let exact = room_for(&full, 4, 0.0);
+        cases.push(quads_case(&full, 4, 0.0, (exact, exact)));
         for least in BAD_LEASTS {
             cases.push(quads_case(&Stars::square(), 3, least, (8, 8)));
             cases.push(quads_case(&Stars::counted(4, 5), 3, least, (8, 8)));
@@ -490,18 +494,42 @@ const NEIGHBOR_QUADS: Call = Call {
     ours: |case| neighbor_quads(case, ours::neighbor_quads),
 };
 
-/// Lists as long as they may be, with as many neighbours, and room for as many quads.
+/// Lists as long as they may be, with as many neighbours: a half of them with room for as many
+/// quads, the others with just enough, or one place too few in either list.
 const WHOLE_LISTS: Call = Call {
     name: "neighbor_quads: 100 stars",
     edges: |_| Vec::new(),
     random: |random| {
         let stars = stars::random(random, 100);
-        let least = random_least(random, &stars);
-        quads_case(&stars, 10, least, (MOST_ROOM, MOST_ROOM))
+        long_case(random, &stars, 10)
     },
-    count: 500,
+    count: 1_200,
     ..NEIGHBOR_QUADS
 };
+
+/// Lists of 15 stars and more, with any number of neighbours.
+const LONGER_LISTS: Call = Call {
+    name: "neighbor_quads: 15 to 100",
+    edges: |_| Vec::new(),
+    random: |random| {
+        let n = 15 + random.below(86) as usize;
+        let stars = stars::random(random, n);
+        let k = random.below(11) as u32;
+        long_case(random, &stars, k)
+    },
+    count: 4_000,
+    ..NEIGHBOR_QUADS
+};
+
+fn long_case(random: &mut Random, stars: &Stars, k: u32) -> Case {
+    let least = random_least(random, stars);
+    let ample = (MOST_ROOM, MOST_ROOM);
+    let rooms = match random.below(2) {
+        0 => ample,
+        _ => random.one_of(&rooms_of(room_for(stars, k, least))),
+    };
+    quads_case(stars, k, least, rooms)
+}
 
 /// The room for the most quads that a list can have.
 const MOST_ROOM: usize = 4 * 12_000;

@@ -32,7 +32,7 @@ has-room-requires : tie.Need-has-room-requires
 has-room-requires c κs =
     let s = c .before .before .before .before .before .before .before .before .before .before .before .before .pre in
     let a = c .before .before .before .before .before .before .before .before .before .before .before .before .args in
-    seeds-are (now (a .xs)) (now (a .ys)) (a .k) _ _ _ (s .1) (s .2) (c .before .before .before .before .before .put-lists .ensures)
+    seeds-are (now (a .xs)) (now (a .ys)) (a .k) _ _ _ (s .1) (s .2 .alike) (c .before .before .before .before .before .put-lists .ensures)
 
 returns : tie.Need-returns
 returns c =
@@ -53,7 +53,7 @@ write-all-requires c κs =
     let s = c .before .before .before .before .before .before .before .before .before .before .before .before .before .before .before .before .before .before .pre in
     let a = c .before .before .before .before .before .before .before .before .before .before .before .before .before .before .before .before .before .before .args in
     let r = room-both _ _ _ (rw (c .before .before .before .before .before .before .lesser .ensures) at (sym (c .before .before .before .before .before .has-room .ensures) ∙ not-false (c .before .before .before .before .before .has-room .result) (c .before .before .before .before .if1 .left))) in
-    (seeds-are (now (a .xs)) (now (a .ys)) (a .k) _ _ _ (s .1) (s .2) (c .before .before .before .before .before .before .before .before .before .before .before .put-lists .ensures), (r .0, r .1))
+    (seeds-are (now (a .xs)) (now (a .ys)) (a .k) _ _ _ (s .1) (s .2 .alike) (c .before .before .before .before .before .before .before .before .before .before .before .put-lists .ensures), (r .0, r .1))
 
 same-length : tie.Need-same-length
 same-length c = search needs

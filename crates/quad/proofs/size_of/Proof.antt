@@ -5,19 +5,19 @@ use borrow.Author.Needs.{needs}
 use Rattle.quad.proofs.size_of.Statement.{statement}
 use Rattle.quad.proofs.size_of.Tie as tie
 
-span-of-requires : tie.Need-span-of-requires
-span-of-requires c κs = search needs
+longest-in-requires : tie.Need-longest-in-requires
+longest-in-requires c κs = search needs
 
 returns : tie.Need-returns
-returns c = size-short _ _ _ (c .before .span-of .ensures) (c .if1 .taken)
+returns c = size-short _ _ _ (c .before .longest-in .ensures .1) (c .if1 .taken)
 
 returns-2 : tie.Need-returns-2
 unfolding leastScale
-returns-2 c = size-degenerate _ _ _ (c .before .before .span-of .ensures) (c .before .if1 .left) (c .if2 .taken)
+returns-2 c = size-degenerate _ _ _ (c .before .before .longest-in .ensures .1) (c .before .if1 .left) (c .if2 .taken)
 
 returns-3 : tie.Need-returns-3
 unfolding leastScale
-returns-3 c = size-kept _ _ _ (c .before .before .span-of .ensures) (c .before .if1 .left) (c .if2 .left)
+returns-3 c = size-kept _ _ _ (c .before .before .longest-in .ensures .1) (c .before .if1 .left) (c .if2 .left)
 
 pub size-of-spec : {M : Type 1} → statement M
-size-of-spec = tie.close (tie.spec span-of-requires returns returns-2 returns-3)
+size-of-spec = tie.close (tie.spec longest-in-requires returns returns-2 returns-3)

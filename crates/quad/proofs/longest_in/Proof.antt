@@ -1,10 +1,13 @@
--- `quad::span_of` meets its contract. Assumes nothing.
+-- `quad::longest_in` meets its contract. Assumes nothing.
+use mathlib.Core.Path.{_∙_, sym, ap}
 use native.Mathlib.Omega.{arith}
+use Rattle.quad_spine.specs.Spine.{oriented, spineOf}
+use Rattle.quad_spine.proofs.Longest.{oriented-span}
 use Rattle.quad.specs.Quads.{fourOf}
 use Rattle.quad.proofs.Fours.{bytes-below}
 use borrow.Author.Needs.{needs}
-use Rattle.quad.proofs.span_of.Statement.{statement}
-use Rattle.quad.proofs.span_of.Tie as tie
+use Rattle.quad.proofs.longest_in.Statement.{statement}
+use Rattle.quad.proofs.longest_in.Tie as tie
 
 cast-star-in : tie.Need-cast-star-in
 cast-star-in c = search needs
@@ -42,15 +45,18 @@ star-in-requires-4 c κs =
     let b = bytes-below _ _ (omega (arith, h .most)) (h .four) in
     (b .3, rw (h .alike) (b .3))
 
-span-of-requires : tie.Need-span-of-requires
-span-of-requires c κs = search needs
+longest-pair-requires : tie.Need-longest-pair-requires
+longest-pair-requires c κs = search needs
 
 returns : tie.Need-returns
-unfolding fourOf
-returns c = rw (c .span-of .ensures, c .before .star-in4 .ensures, c .before .before .star-in3 .ensures, c .before .before .before .star-in2 .ensures, c .before .before .before .before .star-in .ensures)
+unfolding fourOf spineOf
+returns c =
+    let l = c .longest-pair in
+    let s = rw (c .before .star-in4 .ensures, c .before .before .star-in3 .ensures, c .before .before .before .star-in2 .ensures, c .before .before .before .before .star-in .ensures) at (l .ensures) in
+    (ap oriented (s .0), s .1 ∙ sym (oriented-span _))
 
-pub span-of-spec : {M : Type 1} → statement M
-span-of-spec =
+pub longest-in-spec : {M : Type 1} → statement M
+longest-in-spec =
     tie.close
     (tie.spec
     cast-star-in
@@ -61,5 +67,5 @@ span-of-spec =
     star-in-requires-3
     cast-star-in-4
     star-in-requires-4
-    span-of-requires
+    longest-pair-requires
     returns)
