@@ -14,8 +14,7 @@ use Rattle.quad_stars.specs.declared.Four.{Four}
 use Rattle.quad_normal.specs.Normal.{scaledBy, normalOf, leastScale}
 use Rattle.answer.specs.declared.Refusal.the-variants as refusal
 use Rattle.answer.specs.declared.Answer.the-variants as answer
-use Rattle.answer.specs.Answers.{first}
-use Rattle.answer.proofs.Passed.{passed, both, neither}
+use Rattle.answer.proofs.Passed.{passed, neither}
 use Rattle.quad_stars.specs.Stars.{starsAnswer, distSq}
 use Rattle.quad_visit.specs.Visit.{visited}
 use Rattle.quad_visit.proofs.Laws.{rest}

@@ -15,7 +15,7 @@ ghost use lib.Seq.{sets};
 ghost use Rattle.quad_near.specs.Kept.{FiniteStars};
 ghost use Rattle.quad_normal.specs.Normal.{scaledBy};
 ghost use Rattle.quad_lists.specs.Lists.{listed};
-ghost use Rattle.quad.specs.Quads.{fourOf, keptOf, quadOf, placesIn, hashIn, allPlaces, allHashes, inputAnswer, quadPlaces};
+ghost use Rattle.quad.specs.Quads.{fourOf, keptOf, quadOf, placesIn, hashIn, allPlaces, inputAnswer, quadPlaces};
 ghost use Rattle.quad.specs.Quads.{quadHashes, roomAnswer, quadsAnswer, lentAfterQuads};
 ghost use Rattle.quad.specs.Steps.{spanIn, shiftsOf, placeIn, fourIn, Among, Sets, Seeds, Written};
 
@@ -80,8 +80,8 @@ fn either(first: bool, a: u8, b: u8) -> u8
     if first { a } else { b }
 }
 
-// The four stars of a visited set with a pair of them first, in order. They are read by their places anew: to
-// carry all four from the search for the pair would be a jump and forty moves.
+// The four stars of a visited set with a pair of them first, in order. They are read anew by their places, which
+// are picked without a jump: which pair it is cannot be guessed.
 fn four_in(xs: &[f64], ys: &[f64], s: u32, pair: Pair) -> Four
     requires { ⌜ Among (now xs) (now ys) s ⌝ }
     ensures { λ r. ⌜ r ≡ fourIn (now (xs .entry)) (now (ys .entry)) s pair ⌝ }

@@ -1,19 +1,16 @@
 -- The new sets by the lists, seed by seed, are the visited sets. Assumes nothing.
 use Prim.Native.Nat.{ℕ, zero, suc, _+_, _-_, _*_, _≤_, _<_}
-use mathlib.Core.Path.{_≡_, refl, sym, _∙_, subst}
+use mathlib.Core.Path.{_≡_, refl, sym, _∙_}
 use mathlib.Core.List.{List, [], _++_}
 use native.Mathlib.Numerals.{add-one}
 use native.Mathlib.Omega.{arith}
 use lib.ListN.{length, length-append}
 use lib.Ieee.{Float}
-use Rattle.order.proofs.InTurn.{Each}
 use Rattle.quad_visit.specs.Visit.{visited}
-use Rattle.quad_visit.specs.Visits.{FourBelow}
 use Rattle.quad_visit.specs.Met.{neighbours, newOf, newFrom}
 use Rattle.quad_visit.proofs.Laws.{new-120}
 use Rattle.quad_visit.proofs.Neighbours.{visited-new}
 use Rattle.quad_visit.proofs.Table.{firsts-same}
-use Rattle.quad_visit.proofs.Visited.{four-visited}
 use Rattle.quad_lists.specs.Lists.{rowsOf, Lists, listed}
 use Rattle.quad_lists.proofs.Rows.{few-row}
 
