@@ -23,27 +23,23 @@ use Rattle.quad_lists.proofs.All.{listed-is}
 use Rattle.quad.specs.Quads.{fourOf}
 use Rattle.quad.specs.Steps.{placeIn, shiftsOf, fourIn, Among, Sets, Seeds}
 
--- of at most 256 stars
+-- of at most 256 stars the four bytes are the four places
+bytes-are : (n s : ℕ) → n ≤ 256 → (f : FourBelow n s) → (s / 16777216 % 256 ≡ f .a) × (s / 65536 % 256 ≡ f .b) × (s / 256 % 256 ≡ f .c) × (s % 256 ≡ f .d)
+bytes-are n s h f =
+    let e = bytes-of-four n s h f in
+    (ap (λ (l : List ℕ). getD l 0 0) e, ap (λ (l : List ℕ). getD l 1 0) e, ap (λ (l : List ℕ). getD l 2 0) e, ap (λ (l : List ℕ). getD l 3 0) e)
+
+-- and its stars are those at them
 pub stars-of-four : (xs ys : List Float) (n s : ℕ) → n ≤ 256 → (f : FourBelow n s)
     → fourOf xs ys s ≡ spineOf (starAt xs ys (f .a)) (starAt xs ys (f .b)) (starAt xs ys (f .c)) (starAt xs ys (f .d))
 unfolding fourOf
-stars-of-four xs ys n s h f =
-    let e = bytes-of-four n s h f in
-    let a : s / 16777216 % 256 ≡ f .a = ap (λ (l : List ℕ). getD l 0 0) e in
-    let b : s / 65536 % 256 ≡ f .b = ap (λ (l : List ℕ). getD l 1 0) e in
-    let c : s / 256 % 256 ≡ f .c = ap (λ (l : List ℕ). getD l 2 0) e in
-    let d : s % 256 ≡ f .d = ap (λ (l : List ℕ). getD l 3 0) e in
-    rw (a, b, c, d)
+stars-of-four xs ys n s h f = let e = bytes-are n s h f in rw (e .0, e .1, e .2, e .3)
 
 -- each byte is a place of the list
 pub bytes-below : (n s : ℕ) → n ≤ 256 → FourBelow n s → (s / 16777216 % 256 < n) × (s / 65536 % 256 < n) × (s / 256 % 256 < n) × (s % 256 < n)
 bytes-below n s h f =
-    let e = bytes-of-four n s h f in
-    let a : s / 16777216 % 256 ≡ f .a = ap (λ (l : List ℕ). getD l 0 0) e in
-    let b : s / 65536 % 256 ≡ f .b = ap (λ (l : List ℕ). getD l 1 0) e in
-    let c : s / 256 % 256 ≡ f .c = ap (λ (l : List ℕ). getD l 2 0) e in
-    let d : s % 256 ≡ f .d = ap (λ (l : List ℕ). getD l 3 0) e in
-    rw (a, b, c, d) (omega (arith, f .ab, f .bc, f .cd, f .dn), omega (arith, f .bc, f .cd, f .dn), omega (arith, f .cd, f .dn), f .dn)
+    let e = bytes-are n s h f in
+    rw (e .0, e .1, e .2, e .3) (omega (arith, f .ab, f .bc, f .cd, f .dn), omega (arith, f .bc, f .cd, f .dn), omega (arith, f .cd, f .dn), f .dn)
 
 -- and so are those that are found by the shifts of a pair, which name the stars of the four
 pub record Shifted (xs ys : List Float) (s : ℕ) (pair : Pair) : Type 0 where
