@@ -7,7 +7,7 @@ use answer::Refusal;
 use rows::Row;
 
 // From a pixel to the tangent plane: xi = a11 x + a12 y + tx, eta = a21 x + a22 y + ty.
-#[derive(Drop)]
+#[derive(Clone, Copy)]
 pub struct Affine {
     pub a11: f64,
     pub a12: f64,
@@ -59,7 +59,7 @@ impl Affine {
 }
 
 // What three rows come to.
-#[derive(Drop)]
+#[derive(Clone, Copy)]
 pub enum AffineFit {
     Fitted(Affine),
     Refused(Refusal),
@@ -78,7 +78,7 @@ impl AffineFit {
 }
 
 // From the tangent plane back to the pixels: the inverse of an affine's four factors.
-#[derive(Drop)]
+#[derive(Clone, Copy)]
 struct Inverse {
     i00: f64,
     i01: f64,

@@ -13,7 +13,7 @@ const MOST: usize = 100;
 const MOST_MATCHES: usize = 144000000;
 
 // The answer of extract_pairs: how many pairs were written.
-#[derive(Drop)]
+#[derive(Clone, Copy)]
 pub enum Pairs {
     Found(usize),
     Refused(Refusal),

@@ -6,14 +6,14 @@ ghost use Rattle.aggregate_best.specs.Held.{held, row};
 use aggregate_votes::{DetectionId, ResultPlace};
 
 // A place in the results, and the votes of its id.
-#[derive(Drop)]
+#[derive(Clone, Copy)]
 pub struct Choice {
     pub at: ResultPlace,
     pub votes: u32,
 }
 
 // The choices of the detections, as plain numbers.
-#[derive(Drop)]
+#[derive(Clone, Copy)]
 pub struct Choices {
     pub at: [usize; 100],
     pub votes: [u32; 100],

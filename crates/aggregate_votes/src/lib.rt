@@ -5,19 +5,19 @@ ghost use Rattle.aggregate_votes.specs.Votes.{same_id, last_of, vote, votes_in, 
 ghost use Rattle.aggregate_votes.specs.Table.{column_of, misses, cast_vote, cast_all, one_more_of};
 
 // A place in the list of image stars.
-#[derive(Drop)]
+#[derive(Clone, Copy)]
 pub struct ImagePlace(pub u8);
 
 // A place in the list of catalogue stars.
-#[derive(Drop)]
+#[derive(Clone, Copy)]
 pub struct CataloguePlace(pub u8);
 
 // The id of a detection: its place in the list of detections.
-#[derive(Drop)]
+#[derive(Clone, Copy)]
 pub struct DetectionId(pub u32);
 
 // A place in the list of results.
-#[derive(Drop)]
+#[derive(Clone, Copy)]
 pub struct ResultPlace(pub usize);
 
 // The id of a result, and 0 past the end, so that no caller has to carry a bound.

@@ -3,7 +3,7 @@ ghost use Rattle.std.specs.Prelude.{◌≡◌};
 ghost use Rattle.answer.specs.Answers.{number_of, answer_number, room_for, before_room, in_turn};
 
 // A refusal, in the order in which the calls check for it.
-#[derive(Drop)]
+#[derive(Clone, Copy)]
 pub enum Refusal {
     // a count is outside its limit
     Count,
@@ -51,7 +51,7 @@ impl Refusal {
 }
 
 // How a call that writes into lent lists ends; also what the tests of an input come to.
-#[derive(Drop)]
+#[derive(Clone, Copy)]
 pub enum Answer {
     Done,
     Refused(Refusal),

@@ -4,7 +4,7 @@ use libc::{STDIN_FILENO, STDOUT_FILENO};
 use scan::Place;
 
 // The four star places of a case.
-#[derive(Drop)]
+#[derive(Clone, Copy)]
 struct Four {
     a: u8,
     b: u8,
@@ -13,7 +13,7 @@ struct Four {
 }
 
 // The four numbers of a hash.
-#[derive(Drop)]
+#[derive(Clone, Copy)]
 struct Hash {
     h0: f64,
     h1: f64,

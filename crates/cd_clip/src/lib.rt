@@ -14,7 +14,7 @@ const MOST_ROWS: usize = 100;
 
 // How a clip ends: done, or stopped by a fit that is refused with 8, each with the last plate that is
 // good; or refused.
-#[derive(Drop)]
+#[derive(Clone, Copy)]
 pub enum Clipped {
     Done(Cd),
     Stopped(Cd),

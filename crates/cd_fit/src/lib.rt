@@ -15,7 +15,7 @@ use elimination::Eliminated;
 const MOST_ROWS: usize = 100;
 
 // What a fit comes to.
-#[derive(Drop)]
+#[derive(Clone, Copy)]
 pub enum CdFit {
     Plate(Cd),
     Refused(Refusal),

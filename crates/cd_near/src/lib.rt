@@ -83,7 +83,7 @@ fn last_within(limit: f64, low: u64, high: u64) -> f64
 }
 
 // A limit of errors, and the greatest f64 whose root is at most the limit.
-#[derive(Drop)]
+#[derive(Clone, Copy)]
 pub struct Reach {
     pub limit: f64,
     pub square: f64,

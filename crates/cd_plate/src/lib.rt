@@ -14,7 +14,7 @@ use rows::Row;
 const MOST_ROWS: usize = 100;
 
 // From a pixel to the tangent plane: xi = cd1_1 x + cd1_2 y + xi0, eta = cd2_1 x + cd2_2 y + eta0.
-#[derive(Drop)]
+#[derive(Clone, Copy)]
 pub struct Cd {
     pub cd1_1: f64,
     pub cd1_2: f64,
@@ -89,7 +89,7 @@ impl Cd {
 }
 
 // From the tangent plane back to the pixels: what was added goes, then the factors' inverse.
-#[derive(Drop)]
+#[derive(Clone, Copy)]
 pub struct Inverse {
     pub i00: f64,
     pub i01: f64,

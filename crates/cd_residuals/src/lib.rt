@@ -12,7 +12,7 @@ use rows::Row;
 use wcs::Wcs;
 
 // The answer of compute_residuals: how many residuals were written.
-#[derive(Drop)]
+#[derive(Clone, Copy)]
 pub enum Residuals {
     Found(usize),
     Refused(Refusal),
@@ -31,7 +31,7 @@ impl Residuals {
 }
 
 // What a row's pixel is away from where its point goes: in x, in y, and in all.
-#[derive(Drop)]
+#[derive(Clone, Copy)]
 struct Residual {
     x: f64,
     y: f64,

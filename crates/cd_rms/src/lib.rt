@@ -8,7 +8,7 @@ use answer::Refusal;
 const MOST_ERRORS: usize = 100;
 
 // The answer of both calls.
-#[derive(Drop)]
+#[derive(Clone, Copy)]
 pub enum Rms {
     Value(f64),
     Refused(Refusal),
@@ -61,7 +61,7 @@ pub fn rms_error(err_px: &[f64]) -> Rms
 }
 
 // The sum of weights, and that of the weighted squares.
-#[derive(Drop)]
+#[derive(Clone, Copy)]
 struct Weighed {
     w: f64,
     we2: f64,

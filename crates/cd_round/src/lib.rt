@@ -6,7 +6,7 @@ ghost use Rattle.floats.specs.Rounded.{◌⊕◌, ◌⊗◌};
 ghost use Rattle.cd_round.specs.Round.{roots_of, clip_of};
 
 // What a round rejects by: a row's error times the root of its weight may not be above the limit.
-#[derive(Drop)]
+#[derive(Clone, Copy)]
 pub struct Clip {
     pub limit: f64,
 }

@@ -18,7 +18,7 @@ const MOST_VOTES: usize = 100;
 const LEAST_ROWS: usize = 3;
 
 // The answer of ransac_fit: how many rows are on, or why there are none.
-#[derive(Drop)]
+#[derive(Clone, Copy)]
 pub enum CdRun {
     Fitted(usize),
     Untested(usize),

@@ -8,7 +8,7 @@ use rows::Row;
 
 // Six sums of the matrix, which the axes share; three of the right side of xi; three of that of eta. Sums that
 // take one step together stand side by side, so that they are added as one vector.
-#[derive(Drop)]
+#[derive(Clone, Copy)]
 pub struct Sums {
     pub uu: f64,
     pub uv: f64,

@@ -3,7 +3,7 @@ ghost use Rattle.std.specs.Prelude.{◌≡◌, ◌<◌, ◌%◌};
 ghost use Rattle.draw.specs.Draw.{next_word, three_after, triple_of, is_repeated};
 
 // Three places drawn, and the word after them.
-#[derive(Drop)]
+#[derive(Clone, Copy)]
 pub struct Three {
     pub a: usize,
     pub b: usize,

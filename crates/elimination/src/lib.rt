@@ -6,7 +6,7 @@ ghost use Rattle.elimination.specs.Agrees.{Agrees};
 ghost use Rattle.elimination.specs.Steps.{Cleared};
 
 // How an elimination ends: with the matrix reduced, or at a column that has no pivot above the least.
-#[derive(Drop)]
+#[derive(Clone, Copy)]
 pub enum Eliminated {
     Reduced,
     Stopped(usize),

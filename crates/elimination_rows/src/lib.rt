@@ -7,7 +7,7 @@ ghost use Rattle.elimination_rows.specs.Holds.{Holds};
 ghost use Rattle.elimination_rows.specs.Steps.{Less, row_reduced};
 
 // The row of a pivot, and its magnitude.
-#[derive(Drop)]
+#[derive(Clone, Copy)]
 pub struct Pivot {
     pub row: usize,
     pub size: f64,

@@ -11,7 +11,7 @@ use answer::{Answer, Refusal};
 pub const MOST_QUADS: usize = 12000;
 
 // The answer of find_matches: how many matches were written.
-#[derive(Drop)]
+#[derive(Clone, Copy)]
 pub enum Matches {
     Found(usize),
     Refused(Refusal),

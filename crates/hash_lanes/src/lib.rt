@@ -6,7 +6,7 @@ ghost use Rattle.hash_lanes.specs.Lanes.{hash_at, Laned, base_of, lane_of_key, w
 use quad_key::Hash;
 
 // The lanes of a hash at the step -1, from which its three lanes start.
-#[derive(Drop)]
+#[derive(Clone, Copy)]
 pub struct Base {
     pub b0: u16,
     pub b1: u16,

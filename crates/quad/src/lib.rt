@@ -20,14 +20,14 @@ const MOST_NEIGHBOURS: usize = 10;
 const MOST_PLACES: usize = 480;
 
 // The answer of neighbor_quads: how many quads were written.
-#[derive(Drop)]
+#[derive(Clone, Copy)]
 pub enum Quads {
     Found(usize),
     Refused(Refusal),
 }
 
 // What a visited set comes to.
-#[derive(Drop)]
+#[derive(Clone, Copy)]
 enum Tried {
     Kept(Quad),
     Short,

@@ -8,7 +8,7 @@ use answer::Refusal;
 const MOST: u32 = 100;
 
 // Four places. A list has at most 100, so that a byte holds each.
-#[derive(Drop)]
+#[derive(Clone, Copy)]
 pub struct Set {
     pub a: u8,
     pub b: u8,
@@ -17,7 +17,7 @@ pub struct Set {
 }
 
 // The set that is given next, or that none is left.
-#[derive(Drop)]
+#[derive(Clone, Copy)]
 pub struct State {
     pub n: u32,
     pub set: Set,
@@ -25,14 +25,14 @@ pub struct State {
 }
 
 // How the steps begin.
-#[derive(Drop)]
+#[derive(Clone, Copy)]
 pub enum Start {
     Begun(State),
     Refused(Refusal),
 }
 
 // What a step answers: a set and the state after it, or the state in which none is left.
-#[derive(Drop)]
+#[derive(Clone, Copy)]
 pub enum Step {
     Given(Set, State),
     Ended(State),

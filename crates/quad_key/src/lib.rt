@@ -8,7 +8,7 @@ ghost use Rattle.quad_key.specs.Steps.{lanes_of, three_keys, nine_keys, keys27};
 use answer::{Answer, Refusal};
 
 // The four numbers of a quad's hash.
-#[derive(Drop)]
+#[derive(Clone, Copy)]
 pub struct Hash {
     pub h0: f64,
     pub h1: f64,
@@ -17,7 +17,7 @@ pub struct Hash {
 }
 
 // The three lanes of a number: at the step -1, its own, and at the step 1.
-#[derive(Drop)]
+#[derive(Clone, Copy)]
 struct Lanes {
     less: u16,
     own: u16,

@@ -6,7 +6,7 @@ use answer::{Answer, Refusal};
 use quad_stars::{Four, Star};
 
 // A quad: its hash, and the places of its stars.
-#[derive(Drop)]
+#[derive(Clone, Copy)]
 pub struct Quad {
     pub h0: f64,
     pub h1: f64,
@@ -24,14 +24,14 @@ impl Quad {
 }
 
 // What four stars come to when they are scaled by their spine.
-#[derive(Drop)]
+#[derive(Clone, Copy)]
 pub enum Scaled {
     Hash(Quad),
     Degenerate,
 }
 
 // The answer of normalize_quad_ordered.
-#[derive(Drop)]
+#[derive(Clone, Copy)]
 pub enum Normal {
     Hashed(Quad),
     Refused(Refusal),

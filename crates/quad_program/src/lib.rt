@@ -18,21 +18,21 @@ const MOST_STARS: usize = 14;
 const MOST_BYTES: usize = 1024;
 
 // A star's x and y, with the place after its line.
-#[derive(Drop)]
+#[derive(Clone, Copy)]
 enum Star {
     At(f64, f64, usize),
     Wrong,
 }
 
 // How many stars the lines have.
-#[derive(Drop)]
+#[derive(Clone, Copy)]
 enum Stars {
     Are(usize),
     Wrong,
 }
 
 // What a text says, the stars being in two lists beside it.
-#[derive(Drop)]
+#[derive(Clone, Copy)]
 enum Parsed {
     Input { k: usize, least: f64, stars: usize },
     Wrong,

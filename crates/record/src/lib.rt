@@ -21,7 +21,7 @@ const FIXED_SIZE: usize = 234;
 const LINE_SIZE: usize = 23;
 
 // The answer of write_record: how many bytes were written.
-#[derive(Drop)]
+#[derive(Clone, Copy)]
 pub enum Recorded {
     Written(usize),
     Refused(Refusal),

@@ -3,7 +3,7 @@ ghost use Rattle.std.specs.Prelude.{◌≡◌};
 ghost use Rattle.record_format.specs.Formats.{format_of, held_by, solved_by};
 
 // What sets a format apart: the orders that it may have, and whether its distortion lines hold the numbers of the SIP convention.
-#[derive(Drop)]
+#[derive(Clone, Copy)]
 pub struct Format {
     pub least_order: u32,
     pub most_order: u32,

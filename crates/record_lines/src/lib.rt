@@ -12,7 +12,7 @@ use sip_terms::{Sip, Term};
 use wcs::Wcs;
 
 // The numbers of the lines before the terms.
-#[derive(Drop)]
+#[derive(Clone, Copy)]
 pub struct Head {
     pub format: u32,
     pub rows: usize,
@@ -21,7 +21,7 @@ pub struct Head {
 }
 
 // What the lines of one axis hold: its letter, and how many numbers stand in the list, one for each term.
-#[derive(Drop)]
+#[derive(Clone, Copy)]
 pub struct Axis {
     pub letter: u8,
     pub terms: usize,

@@ -11,7 +11,7 @@ use wcs::Wcs;
 
 // The answer of read_record: what a record shows beside its coefficients, its format, what a fit hands back, the WCS and the
 // order; or the number of its first wrong line; or why it is refused otherwise.
-#[derive(Drop)]
+#[derive(Clone, Copy)]
 pub enum Loaded {
     Is(u32, Sip, Wcs, u32),
     Wrong(u32),

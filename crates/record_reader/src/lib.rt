@@ -14,7 +14,7 @@ use sip_terms::{Sip, Term};
 use wcs::Wcs;
 
 // The format, the rows used and the reference pixel.
-#[derive(Drop)]
+#[derive(Clone, Copy)]
 struct Start {
     format: u32,
     rows: usize,
@@ -24,7 +24,7 @@ struct Start {
 }
 
 // The CD numbers and the order.
-#[derive(Drop)]
+#[derive(Clone, Copy)]
 struct Factors {
     cd1_1: f64,
     cd1_2: f64,
@@ -35,7 +35,7 @@ struct Factors {
 }
 
 // The errors.
-#[derive(Drop)]
+#[derive(Clone, Copy)]
 struct Errors {
     linear_rms: f64,
     rms: f64,
@@ -45,7 +45,7 @@ struct Errors {
 
 // What a text shows beside the coefficients, its format, what a fit hands back, the WCS and the order; or the number of its
 // first wrong line.
-#[derive(Drop)]
+#[derive(Clone, Copy)]
 pub enum Shown {
     Is(u32, Sip, Wcs, u32),
     Wrong(u32),

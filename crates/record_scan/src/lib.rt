@@ -9,7 +9,7 @@ use scan_digits::Number;
 use sip_terms::Term;
 
 // Where the next line starts and its number; once a line was wrong, where that one starts.
-#[derive(Drop)]
+#[derive(Clone, Copy)]
 pub struct Spot {
     pub at: usize,
     pub line: u32,
@@ -17,14 +17,14 @@ pub struct Spot {
 }
 
 // The number of a line, and where the next one starts.
-#[derive(Drop)]
+#[derive(Clone, Copy)]
 pub struct Line {
     pub value: u64,
     pub next: Spot,
 }
 
 // What the float of a line may be.
-#[derive(Drop)]
+#[derive(Clone, Copy)]
 pub enum Test {
     Position,
     Finite,

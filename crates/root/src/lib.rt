@@ -94,7 +94,7 @@ fn root_whole(m: u64, bits: u64) -> u64
 }
 
 // A number m * 2^e of units of 2^-1126.
-#[derive(Drop)]
+#[derive(Clone, Copy)]
 struct Spread {
     m: u64,
     e: u64,

@@ -8,7 +8,7 @@ use answer::{Answer, Refusal};
 const MOST_ROWS: usize = 100;
 
 // One row.
-#[derive(Drop)]
+#[derive(Clone, Copy)]
 pub struct Row {
     pub px: f64,
     pub py: f64,

@@ -3,7 +3,7 @@ ghost use Rattle.std.specs.Prelude.{◌≡◌, drop};
 ghost use Rattle.scan.specs.Read.{read_bytes, line_end};
 
 // The place after what was looked for, or the place of the first byte that differs.
-#[derive(Drop)]
+#[derive(Clone, Copy)]
 pub enum Place {
     Next(usize),
     Not(usize),

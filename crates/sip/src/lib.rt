@@ -21,7 +21,7 @@ const MOST_POWERS: usize = 600;
 const MOST_TERMS: usize = 18;
 
 // What a fit comes to.
-#[derive(Drop)]
+#[derive(Clone, Copy)]
 pub enum SipFit {
     Fitted(Sip),
     Refused(Refusal),

@@ -62,7 +62,7 @@ pub fn linear_rms(px: &[f64], py: &[f64], xi: &[f64], eta: &[f64], wcs: Wcs) -> 
 }
 
 // The squares of errors, the weights, and the weighted squares.
-#[derive(Drop)]
+#[derive(Clone, Copy)]
 struct Totals {
     squares: f64,
     weights: f64,

@@ -12,7 +12,7 @@ use rows::Row;
 use wcs::Wcs;
 
 // A row as the fit takes it: its pixel from the reference pixel, and what it is away from its ideal place.
-#[derive(Drop)]
+#[derive(Clone, Copy)]
 pub struct Offset {
     pub u: f64,
     pub v: f64,

@@ -7,7 +7,7 @@ ghost use Rattle.sip_terms.specs.Steps.{powers_of, basis_in};
 ghost use Rattle.sip_terms.specs.Sums.{sums_of};
 
 // What a fit hands back beside its coefficients.
-#[derive(Drop)]
+#[derive(Clone, Copy)]
 pub struct Sip {
     pub rows_used: usize,
     pub linear_rms: f64,
@@ -58,7 +58,7 @@ pub fn put_sip(s: Sip, rows_used: &mut u64, sums: &mut [f64])
 pub const POWERS: usize = 6;
 
 // The powers of one term: u^p v^q.
-#[derive(Drop)]
+#[derive(Clone, Copy)]
 pub struct Term {
     pub p: usize,
     pub q: usize,

@@ -8,7 +8,7 @@ use affine::{Affine, AffineFit};
 use answer::{Answer, Refusal};
 
 // The answer of count_affine_inliers.
-#[derive(Drop)]
+#[derive(Clone, Copy)]
 pub enum Inliers {
     Counted(usize),
     Refused(Refusal),

@@ -6,7 +6,7 @@ ghost use Rattle.wcs.specs.Wcs.{wcs_in, wcs_numbers, plate_of, is_wcs};
 use cd_plate::Cd;
 
 // The reference pixel, and the factors from pixels to degrees.
-#[derive(Drop)]
+#[derive(Clone, Copy)]
 pub struct Wcs {
     pub crpix1: f64,
     pub crpix2: f64,
