@@ -1,0 +1,20 @@
+-- `aggregate_votes::columns` meets its contract: the columns before j are found, and the others are 0. Assumes nothing.
+use borrow.Author.Rules.{rules}
+use Rattle.aggregate_votes.proofs.Cells.{zeros_at, filled}
+use Rattle.aggregate_votes.specs.Table.{column_of}
+use Rattle.aggregate_votes.specs.Votes.{last_of}
+use lib.Dec.{ltb}
+use lib.IntN.{pos}
+use borrow.Author.Tests.{le-ltb}
+use lib.ListN.{length, length-set, get_or}
+use native.Mathlib.Omega.{arith}
+use mathlib.Core.Bool.{cond}
+use mathlib.Core.Path.{◌≡◌}
+use Prim.Native.Nat.{◌≤◌, ◌-◌, ℕ}
+use Rattle.aggregate_votes.proofs.columns.Given as goal
+
+abbrev pub invariant-loop-j : goal.invariant-loop-j
+invariant-loop-j l = (l.j ≤ length l.catalogue) × (length l.cols ≡ 256) × ((k : ℕ) → get_or l.cols k 0 ≡ cond (ltb k l.j) (last_of l.results (get_or l.catalogue k (pos 0)) (length l.results)) 0)
+
+abbrev pub decreases-loop-j : goal.decreases-loop-j
+decreases-loop-j l = length l.catalogue - l.j

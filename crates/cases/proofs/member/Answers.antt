@@ -1,0 +1,17 @@
+-- `cases::member` meets its contract: the loop's invariant is the member so far. Assumes nothing.
+use borrow.Author.Rules.{rules}
+use mathlib.Core.Path.{◌≡◌, ap, ◌∙◌}
+use Prim.Native.Nat.{◌≤◌, ◌-◌}
+use native.Mathlib.Numerals.{add-one}
+use native.Mathlib.Omega.{arith}
+use Rattle.cases.specs.Fields.{member_after}
+use Rattle.cases.proofs.member.Goals as goal
+
+pub loop-preserved : goal.loop-preserved
+unfolding member_after
+loop-preserved c = (rw (add-one, ← c.loop.invariant.0) c.after_number-p.ensures, omega arith)
+
+pub returns : goal.returns
+returns c =
+    let a = c.args in
+    c.loop.invariant.0 ∙ ap (member_after a.s.now a.at) (omega arith)

@@ -1,0 +1,11 @@
+-- `cases::member` meets its contract: the loop's invariant is the member so far. Assumes nothing.
+use borrow.Author.Rules.{rules}
+use mathlib.Core.Path.{◌≡◌, ap, ◌∙◌}
+use Prim.Native.Nat.{◌≤◌, ◌-◌}
+use native.Mathlib.Numerals.{add-one}
+use native.Mathlib.Omega.{arith}
+use Rattle.cases.specs.Fields.{member_after}
+use Rattle.cases.proofs.member.Given as goal
+
+abbrev pub invariant-loop : goal.invariant-loop
+invariant-loop l = (l.p ≡ member_after l.s l.at l.counter) × (l.counter ≤ l.k)

@@ -1,0 +1,20 @@
+-- `cases::next_field` meets its contract: the loop's invariant: the next space is that from here. Assumes nothing.
+use borrow.Author.Rules.{rules}
+use mathlib.Core.Path.{◌≡◌, refl, ◌∙◌}
+use Prim.Native.Nat.{◌-◌}
+use lib.ListN.{length, drop}
+use Rattle.cases.specs.Fields.{after_space}
+use Rattle.cases.proofs.Reading.{space_more, space_found, space_none}
+use Rattle.cases.proofs.next_field.Goals as goal
+
+pub loop-p-init : goal.loop-p-init
+loop-p-init c = refl
+
+pub returns-then-s-p-eq32 : goal.returns-then-s-p-eq32
+returns-then-s-p-eq32 c = space_found _ _ c.loop-p-test.true c.if-s-p-eq32.true ∙ c.loop-p.invariant
+
+pub loop-p-preserved : goal.loop-p-preserved
+loop-p-preserved c = space_more _ _ c.loop-p-test.true c.if-s-p-eq32.false ∙ c.loop-p.invariant
+
+pub returns : goal.returns
+returns c = space_none _ _ c.loop-p-test.false ∙ c.loop-p.invariant

@@ -1,0 +1,17 @@
+-- `cases_cd::answer_all` is safe and ends: each turn passes a newline. Assumes nothing.
+use borrow.Author.Rules.{rules}
+use mathlib.Core.Path.{sym, subst}
+use Prim.Native.Nat.{ℕ, ◌-◌, ◌≤◌}
+use native.Mathlib.Omega.{arith}
+use lib.ListN.{length, drop}
+use Rattle.scan.proofs.Reading.{line_within}
+use Rattle.cases_cd.proofs.answer_all.Goals as goal
+
+-- a line does not end before it starts
+passed : (c : tie.After-line-end invariant-loop decreases-loop) → c.before.before.before.loop.at ≤ c.line-end.result
+passed c =
+    let at = c.before.before.before.loop.at in
+    subst (λ (k : ℕ). at ≤ k) (sym c.line-end.ensures) (line_within (drop at c.before.before.before.before.before.args.s.now) at).0
+
+pub loop-at-smaller : goal.loop-at-smaller
+loop-at-smaller c = omega (arith, passed c.before)

@@ -1,0 +1,30 @@
+-- `cd_mask::count_on` meets its contract: the count, with the ones still to come, is all of them. Assumes nothing.
+use mathlib.Core.Path.{◌≡◌, ap}
+use mathlib.Core.Bool.{Bool}
+use Prim.Native.Nat.{◌≤◌, ◌-◌, ◌+◌}
+use native.Mathlib.Omega.{arith}
+use lib.Dec.{eqb}
+use lib.ListN.{length, get_or, drop, drop_of_length-le}
+use borrow.Author.Rules.{rules}
+use Rattle.cd_mask.specs.Marks.{ones}
+use Rattle.cd_mask.proofs.Marking.{byte_small, ones_at}
+use Rattle.cd_mask.proofs.count_on.Goals as goal
+
+-- whether the row at the loop's place is on
+abbrev here : (c : tie.At-loop invariant-loop decreases-loop) → Bool
+here c = eqb (get_or c.before.before.args.mask.now c.loop.i 0) 1
+
+pub overflow_add-count : goal.overflow_add-count
+overflow_add-count c = omega (arith, byte_small (here c.before.before.before) c.is_on-count.ensures)
+
+pub loop-i-preserved : goal.loop-i-preserved
+loop-i-preserved c =
+    let mask = c.args.mask.now in
+    let small = byte_small (here c.before.before.before) c.is_on-count.ensures in
+    (search rules, search rules, omega (arith, small), omega (arith, c.is_on-count.ensures, ones_at mask c.loop-i.i (omega arith)))
+
+pub returns : goal.returns
+unfolding ones
+returns c =
+    let mask = c.args.mask.now in
+    omega (arith, ap ones (drop_of_length-le mask {i = c.loop-i.i} (omega arith)))

@@ -1,0 +1,6 @@
+-- `cd_plate::Inverse::error` meets its contract: the root of the squared error. Assumes nothing.
+use borrow.Author.Rules.{rules}
+use Rattle.cd_plate.proofs.Inverse.error.Goals as goal
+
+pub returns : goal.returns
+returns c = rw (c.root.ensures.is, c.square.ensures)

@@ -1,0 +1,6 @@
+-- `cd_plate::error_if` meets its contract: a row that is on has the error of its call. Assumes nothing.
+use borrow.Author.Rules.{rules}
+use Rattle.cd_plate.proofs.error_if.Goals as goal
+
+pub returns-then-on : goal.returns-then-on
+returns-then-on c = rw (c.if-on.true, c.error.ensures)

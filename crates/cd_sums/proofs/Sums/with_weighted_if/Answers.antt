@@ -1,0 +1,10 @@
+-- `cd_sums::Sums::with_weighted_if` meets its contract: a row that is off changes nothing. Assumes nothing.
+use mathlib.Core.Path.{refl}
+use borrow.Author.Rules.{rules}
+use Rattle.cd_sums.proofs.Sums.with_weighted_if.Goals as goal
+
+pub returns-then-on : goal.returns-then-on
+returns-then-on c = rw c.if-on.true c.with_weighted.ensures
+
+pub returns-else-on : goal.returns-else-on
+returns-else-on c = rw c.if-on.false (record { of_xi = refl; of_eta = refl })

@@ -1,0 +1,30 @@
+-- `cd_sums::sum_rows` meets its contract: after i rows the sums are those of the first i. Assumes nothing.
+use Rattle.cd_sums.proofs.Turns.{plain_again}
+use Rattle.cd_sums.specs.Both.{Both}
+use Rattle.cd_sums.specs.Sums.{xi_of, eta_of, sums_to, plain_sums}
+use Rattle.rows.specs.Rows.{rows}
+use borrow.Author.Rules.{rules}
+use lib.ListN.{length}
+use native.Mathlib.Omega.{arith}
+use mathlib.Core.Path.{◌≡◌}
+use Prim.Native.Nat.{◌≤◌, ◌-◌}
+use Rattle.cd_sums.proofs.sum_rows.Goals as goal
+
+pub loop-i-init : goal.loop-i-init
+unfolding sums_to
+loop-i-init c = (c.new-s.ensures, search rules, search rules)
+
+pub loop-i-preserved : goal.loop-i-preserved
+loop-i-preserved c =
+    let l = c.loop-i in
+    let a = c.args in (
+      plain_again (rows a.px.now a.py.now a.xi.now a.eta.now) a.mask.now l.i l.s c.with_row_if-s.result c.row_at.result l.invariant.0 c.row_at.ensures c.with_row_if-s.ensures,
+      search rules,
+      search rules,
+    )
+
+pub returns : goal.returns
+returns c =
+    let l = c.loop-i in
+    let e : l.i ≡ length c.args.px.now = omega arith in
+    rw (← e) l.invariant.0

@@ -1,0 +1,37 @@
+-- `elimination_rows::pivot_row` meets its contract: the pivot of the rows before r. Assumes nothing.
+use Prim.Native.Nat.{◌+◌, ◌≤◌, ◌<◌, ◌-◌}
+use mathlib.Core.Logic.{⊎_elim}
+use mathlib.Core.Path.{◌≡◌, ◌∙◌, ap}
+use native.Mathlib.Omega.{arith}
+use borrow.Author.Rules.{rules}
+use Rattle.floats.specs.Magnitude.{magnitude_of}
+use Rattle.elimination_rows.proofs.Turns.{pivot_none, pivot_taken, pivot_left}
+use Rattle.elimination_rows.proofs.Flat.{in_cell}
+use Rattle.elimination_rows.specs.Matrix.{cells, pivot_row}
+use Rattle.elimination_rows.proofs.pivot_row.Goals as goal
+
+pub cell_at-requires : goal.cell_at-requires
+cell_at-requires c = let a = c.args in omega (arith, in_cell a.n a.w a.col a.col (omega arith) (omega arith))
+
+pub loop-r-init : goal.loop-r-init
+loop-r-init c = let a = c.args in (pivot_none (cells a.m.now a.w) a.col, c.magnitude-size.ensures ∙ ap magnitude_of c.cell_at.ensures, omega arith, omega arith, omega arith)
+
+pub cell_at-requires-in-loop-r : goal.cell_at-requires-in-loop-r
+cell_at-requires-in-loop-r c = let a = c.args in omega (arith, in_cell a.n a.w c.loop-r.r a.col (omega arith) (omega arith))
+
+pub loop-r-preserved : goal.loop-r-preserved
+loop-r-preserved c =
+    let a = c.args in
+    let i = c.loop-r in
+    let m = cells a.m.now a.w in
+    let o : c.magnitude-v.result ≡ magnitude_of (m i.r a.col) = c.magnitude-v.ensures ∙ ap magnitude_of c.cell_at-in-loop-r.ensures in
+    ⊎_elim
+    (λ w. (w.1 ∙ pivot_taken m a.col i.r i.row i.size c.magnitude-v.result i.invariant.3 i.invariant.0 i.invariant.1 o w.0.taken, rw w.1 (w.2 ∙ o), omega arith, omega arith, omega arith))
+    (λ w. (w.1 ∙ pivot_left m a.col i.r i.row i.size c.magnitude-v.result i.invariant.3 i.invariant.0 i.invariant.1 o w.0.left, rw w.1 (w.2 ∙ i.invariant.1), omega arith, omega arith, omega arith))
+    c.if-v-size.branch
+
+pub returns : goal.returns
+returns c =
+    let a = c.args in
+    let e : c.loop-r.r ≡ a.n = omega arith in
+    (rw (← e) c.loop-r.invariant.0, c.loop-r.invariant.1, c.loop-r.invariant.2)

@@ -1,0 +1,71 @@
+-- `hash_index::count_all` meets its contract: what is counted and what is left come to the whole, and each count is stored. Assumes nothing.
+use borrow.Author.Rules.{rules}
+use mathlib.Core.Path.{◌≡◌, ap, ◌∙◌}
+use Prim.Native.Nat.{◌+◌, ◌-◌, ◌*◌, ◌≤◌}
+use native.Mathlib.Nat.{sub-zero}
+use native.Mathlib.Omega.{arith}
+use lib.ListN.{length, length-set, length-append}
+use Rattle.hash_lanes.specs.Lanes.{hash_at, base_of}
+use Rattle.hash_near.proofs.Near.{near_most}
+use Rattle.hash_near.proofs.Over.{over_more, over_end}
+use Rattle.hash_near.specs.Over.{over}
+use Rattle.hash_index.specs.Steps.{near_to, Counted}
+use Rattle.hash_index.proofs.Call.{counted_none, counted_more}
+use Rattle.hash_index.proofs.count_all.Goals as goal
+
+pub loop-i-init : goal.loop-i-init
+loop-i-init c = let a = c.args in
+    (omega arith, omega arith, omega arith, rw sub-zero (omega arith), counted_none (near_to a.hashes.now a.lanes.now a.m) a.counts.now)
+
+pub base_at-requires : goal.base_at-requires
+base_at-requires c = omega (arith, (c.requires.fact_1, (c.requires.fact_2))
+
+pub count_near-near-requires : goal.count_near-near-requires
+count_near-near-requires c = let it = (omega (arith, (c.requires.fact_1, (c.requires.fact_2)), (omega arith, omega (arith, (c.requires.fact_1, (c.requires.fact_2)))) in record { fact_1 = it.0; fact_2 = it.1.0; fact_3 = it.1.1 }
+
+-- the near ones of image quad i are counted
+counted : (c : tie.After-count-near invariant-loop decreases-loop) → c.count-near.result ≡ length (near_to c.before.before.before.before.before.before.before.args.hashes.now c.before.before.before.before.before.before.before.args.lanes.now c.before.before.before.before.before.before.before.args.m c.before.before.before.loop.i)
+counted c = rw (c.before.base-at.ensures, sub-zero c.before.before.before.before.before.before.before.args.m) at c.count-near.ensures
+
+-- and are 12,000 at most
+most : (c : tie.After-count-near invariant-loop decreases-loop) → c.count-near.result ≤ 12000
+most c = omega (arith, counted c, near_most c.before.before.before.before.before.before.before.args.lanes.now (base_of (hash_at c.before.before.before.before.before.before.before.args.hashes.now c.before.before.before.loop.i)) 0 c.before.before.before.before.before.before.before.args.m, c.before.before.before.before.before.before.before.requires)
+
+pub offset_bounds-counts-i : goal.offset_bounds-counts-i
+offset_bounds-counts-i c = omega (arith, (c.requires.fact_1, (c.requires.fact_2))
+
+pub bounds-counts-i : goal.bounds-counts-i
+bounds-counts-i c = omega (arith, (c.requires.fact_1, (c.requires.fact_2))
+
+pub overflow_add-total : goal.overflow_add-total
+overflow_add-total c = omega (arith, most c, c.loop-i.invariant, (c.requires.fact_1, (c.requires.fact_2))
+
+pub overflow_step-i : goal.overflow_step-i
+overflow_step-i c = omega arith
+
+pub loop-i-smaller : goal.loop-i-smaller
+loop-i-smaller c = omega arith
+
+pub loop-i-preserved : goal.loop-i-preserved
+loop-i-preserved c =
+    let a = c.args in
+    let l = c.loop-i in
+    let near = near_to a.hashes.now a.lanes.now a.m in
+    let e = ap length (over_more near l.i a.n c.loop-i-test.true) ∙ length-append (near l.i) (over near (l.i + 1) (a.n - (l.i + 1))) in (
+      omega arith,
+      length-set l.counts l.i c.count_near-near.result ∙ l.invariant.1,
+      omega (arith, most c, l.invariant.2),
+      omega (arith, counted c, l.invariant.3),
+      counted_more (near_to a.hashes.now a.lanes.now a.m) l.i l.counts c.count_near-near.result (omega (arith, l.invariant.1, (c.requires.fact_1, (c.requires.fact_2))) (counted c) l.invariant.4,
+    )
+
+pub shape_of-counts : goal.shape_of-counts
+shape_of-counts c = omega (arith, c.loop-i.invariant.1, (c.requires.fact_1, (c.requires.fact_2))
+
+pub returns : goal.returns
+returns c =
+    let a = c.args in
+    let l = c.loop-i in
+    let near = near_to a.hashes.now a.lanes.now a.m in
+    let d : l.i ≡ a.n = omega (arith, l.invariant.0, c.loop-i-test.false) in
+    (omega (arith, ap length (over_end near l.i a.n c.loop-i-test.false), l.invariant.3), rw d at l.invariant.4)

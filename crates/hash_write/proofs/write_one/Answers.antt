@@ -1,0 +1,26 @@
+-- `hash_write::write_one` meets its contract: a match is written where the number is n, and nothing elsewhere. Assumes nothing.
+use borrow.Author.Rules.{rules}
+use mathlib.Core.Path.{refl, ap}
+use native.Mathlib.Omega.{arith}
+use lib.ListN.{length}
+use Rattle.hash_write.proofs.Writing.{picked, passed, one_part, no_part}
+use Rattle.hash_write.proofs.write_one.Goals as goal
+
+pub returns-then-x-n : goal.returns-then-x-n
+returns-then-x-n c = let a = c.args in no_part a.matches.now a.p _ (passed a.places.now a.i a.catalogue.now a.n a.x c.if-x-n.true)
+
+pub write_match-requires : goal.write_match-requires
+write_match-requires c =
+    let a = c.args in
+    let e = ap length (picked a.places.now a.i a.catalogue.now a.n a.x c.if-x-n.false) in let it = (omega arith, (omega arith, omega (arith, (c.requires.fact_1, (c.requires.fact_2)))) in record { fact_1 = it.0; fact_2 = it.1.0; fact_3 = it.1.1 }
+
+pub overflow_add-result : goal.overflow_add-result
+overflow_add-result c =
+    let a = c.args in
+    let e = ap length (picked a.places.now a.i a.catalogue.now a.n a.x c.if-x-n.false) in
+    omega (arith, (c.requires.fact_1, (c.requires.fact_2))
+
+pub returns : goal.returns
+returns c =
+    let a = c.args in
+    one_part a.matches.now a.p 8 _ _ _ refl (picked a.places.now a.i a.catalogue.now a.n a.x c.if-x-n.false) c.write_match.ensures

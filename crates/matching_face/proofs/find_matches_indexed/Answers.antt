@@ -1,0 +1,16 @@
+-- `matching_face::find_matches_indexed` meets its contract: the inner call decides, and the count is handed out where it is done. Assumes nothing.
+use Rattle.matching_face.proofs.Counts.{indexed_counted}
+use mathlib.Core.Path.{sym, ◌∙◌}
+use borrow.Author.Rules.{rules}
+use Rattle.matching_face.proofs.find_matches_indexed.Goals as goal
+
+pub returns-in-Refused : goal.returns-in-Refused
+returns-in-Refused c = let tried = c.find_matches_indexed.ensures in
+    let why = c.in-Refused.is in
+    record { number = rw (← tried.answer, why) c.number.ensures; matches = rw (← tried.answer, why) (rw why at tried.matches); count = rw (← tried.answer, why) }
+
+pub returns-in-Found : goal.returns-in-Found
+returns-in-Found c = let tried = c.find_matches_indexed.ensures in
+    let count = c.in-Found.is in
+    let all = indexed_counted _ _ _ _ _ _ _ _ (sym tried.answer ∙ count) in
+    record { number = rw (← tried.answer, count); matches = rw (← tried.answer, count) (rw count at tried.matches); count = rw (← tried.answer, count) all }

@@ -1,0 +1,16 @@
+-- `put::put_bytes` meets its contract: the loop's invariant: what is left of the bytes, put after those that are there, comes to the whole.
+use Prim.Native.Nat.{◌+◌, ◌-◌, ◌≤◌}
+use mathlib.Core.Path.{◌≡◌, ◌∙◌}
+use native.Mathlib.Omega.{arith}
+use native.Mathlib.Nat.{add-zero}
+use lib.ListN.{length, drop}
+use lib.Seq.{sets}
+use Rattle.put.proofs.Writing.{copy_step, copy_end}
+use borrow.Author.Rules.{rules}
+use Rattle.put.proofs.put_bytes.Given as goal
+
+abbrev pub invariant-loop-i : goal.invariant-loop-i
+invariant-loop-i l = (sets l.buf (l.at + l.i) (drop l.i l.t) ≡ sets l.initial.buf l.at l.t) × (l.i ≤ length l.t) × (length l.buf ≡ length l.initial.buf)
+
+abbrev pub decreases-loop-i : goal.decreases-loop-i
+decreases-loop-i l = length l.t - l.i

@@ -1,0 +1,19 @@
+-- `quad::write_all` meets its contract. Assumes nothing.
+use Prim.Native.Nat.{◌+◌, ◌-◌, ◌≤◌}
+use mathlib.Core.Path.{◌≡◌, ◌∙◌, refl}
+use native.Mathlib.Nat.{sub-zero}
+use native.Mathlib.Omega.{arith}
+use lib.ListN.{length}
+use Rattle.quad_visit.specs.Met.{new_of, new_from}
+use Rattle.quad_lists.specs.Lists.{rows_of, listed}
+use Rattle.quad_lists.proofs.All.{from_more, from_end}
+use Rattle.quad.proofs.Laws.{Writing, start, step_part, ended, count_part}
+use Rattle.quad.proofs.Fours.{sets_are}
+use borrow.Author.Rules.{rules}
+use Rattle.quad.proofs.write_all.Given as goal
+
+abbrev pub invariant-loop-seed : goal.invariant-loop-seed
+invariant-loop-seed l = (l.seed ≤ length l.xs) × Writing l.xs l.ys l.least (listed l.lists l.c (length l.xs)) 0 l.initial.places l.initial.hashes l.places l.hashes l.p (new_from (rows_of l.lists l.c) l.seed (length l.xs - l.seed)) × (length l.store ≡ 120)
+
+abbrev pub decreases-loop-seed : goal.decreases-loop-seed
+decreases-loop-seed l = length l.xs - l.seed

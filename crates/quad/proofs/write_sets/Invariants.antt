@@ -1,0 +1,14 @@
+-- `quad::write_sets` meets its contract. Assumes nothing.
+use Prim.Native.Nat.{◌+◌, ◌-◌, ◌≤◌}
+use native.Mathlib.Omega.{arith}
+use lib.ListN.{get_or, take, drop}
+use Rattle.quad_visit.proofs.Laws.{rest}
+use Rattle.quad.proofs.Laws.{Writing, start, step, ended, none_left, count_more}
+use borrow.Author.Rules.{rules}
+use Rattle.quad.proofs.write_sets.Given as goal
+
+abbrev pub invariant-loop-i : goal.invariant-loop-i
+invariant-loop-i l = (l.i ≤ l.n) × Writing l.xs l.ys l.least (take l.n l.store) l.p l.initial.places l.initial.hashes l.places l.hashes l.at (drop l.i (take l.n l.store))
+
+abbrev pub decreases-loop-i : goal.decreases-loop-i
+decreases-loop-i l = l.n - l.i

@@ -1,0 +1,29 @@
+-- `quad_program::answer` meets its contract: what the text says decides which text is put at the front of the buffer.
+use Rattle.quad_program.proofs.Whole.{wrong_text, says_text, at_front, few_front}
+use lib.Seq.{length-take-le}
+use lib.ListN.{length}
+use native.Mathlib.Omega.{arith}
+use mathlib.Core.Path.{◌≡◌, sym}
+use borrow.Author.Rules.{rules}
+use Rattle.quad_program.proofs.answer.Goals as goal
+
+pub slice_bounds-xs-end : goal.slice_bounds-xs-end
+slice_bounds-xs-end c = omega (arith, rw c.in-Input.is at c.parse.ensures.1, c.parse.auto.xs)
+
+pub slice_bounds-put_answer-end-in-Input : goal.slice_bounds-put_answer-end-in-Input
+slice_bounds-put_answer-end-in-Input c = sym (length-take-le _ _ (omega (arith, rw c.in-Input.is at c.parse.ensures.1, c.parse.auto.xs)))
+
+pub slice_bounds-ys-end : goal.slice_bounds-ys-end
+slice_bounds-ys-end c = omega (arith, rw c.in-Input.is at c.parse.ensures.1, c.parse.auto.ys)
+
+pub slice_bounds-put_answer-end-in-Input-2 : goal.slice_bounds-put_answer-end-in-Input-2
+slice_bounds-put_answer-end-in-Input-2 c = sym (length-take-le _ _ (omega (arith, rw c.in-Input.is at c.parse.ensures.1, c.parse.auto.ys)))
+
+pub put_answer-requires : goal.put_answer-requires
+put_answer-requires c = (search rules, few_front _ _ (rw c.in-Input.is at c.parse.ensures.1))
+
+pub returns-in-Wrong : goal.returns-in-Wrong
+returns-in-Wrong c = let l : length c.args.out.now ≡ 42100 = search rules in let it = at_front _ _ _ _ _ (wrong_text _ _ _ _ _ c.in-Wrong.is c.parse.ensures.0 c.number.ensures) l (omega (arith, c.put_status.ensures.1)) c.put_status.ensures.0 in record { text = it.0; count = it.1.0; rest = it.1.1.0; fits = it.1.1.1 }
+
+pub returns-in-Input : goal.returns-in-Input
+returns-in-Input c = let l : length c.args.out.now ≡ 42100 = search rules in let it = at_front _ _ _ _ _ (says_text _ _ _ _ _ _ _ c.in-Input.is c.parse.ensures.0) l c.put_answer.ensures.1 c.put_answer.ensures.0 in record { text = it.0; count = it.1.0; rest = it.1.1.0; fits = it.1.1.1 }

@@ -1,0 +1,15 @@
+-- `quad_program::put_quads` meets its contract: the loop's invariant: what is put, and the lines of the quads that are left, come to the whole; and each quad took at most 42 bytes.
+use borrow.Author.Rules.{rules}
+use Rattle.quad_program.proofs.Printing.{lines_more, lines_none, lines_start}
+use Rattle.quad_program.specs.Print.{all_lines}
+use Rattle.put.proofs.Writing.{Going, going_start, going_step, going_end, same_rest}
+use lib.ListN.{drop}
+use native.Mathlib.Omega.{arith}
+use Prim.Native.Nat.{◌+◌, ◌*◌, ◌-◌, ◌≤◌}
+use Rattle.quad_program.proofs.put_quads.Given as goal
+
+abbrev pub invariant-loop-i : goal.invariant-loop-i
+invariant-loop-i l = Going l.initial.buf l.at (all_lines l.n l.places l.hashes) l.buf l.m (all_lines (l.n - l.i) (drop (4 * l.i) l.places) (drop (4 * l.i) l.hashes)) × (l.i ≤ l.n) × (l.m ≤ l.at + 42 * l.i)
+
+abbrev pub decreases-loop-i : goal.decreases-loop-i
+decreases-loop-i l = l.n - l.i

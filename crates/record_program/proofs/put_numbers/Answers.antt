@@ -1,0 +1,32 @@
+-- `record_program::put_numbers` meets its contract: the loop's invariant: what is put, and the lines of the coefficients that are left, come to the whole; and the next term is at hand. Assumes nothing.
+use borrow.Author.Rules.{rules}
+use native.Mathlib.Omega.{arith}
+use lib.ListN.{length, drop}
+use Prim.Native.Nat.{◌≤◌, ◌-◌}
+use mathlib.Core.Path.{◌≡◌}
+use Rattle.sip_terms.proofs.Places.{low_term, term_more}
+use Rattle.sip_terms.specs.Terms.{first_term, term_at}
+use Rattle.record_lines.specs.Lines.{text_of}
+use Rattle.record_program.proofs.Texts.{all_more, all_none}
+use Rattle.put.proofs.Writing.{Going, going_start, going_step, going_end, going_room, room_first, same_rest}
+use Rattle.record_program.specs.Program.{all_lines}
+use Rattle.record_program.proofs.put_numbers.Goals as goal
+
+pub loop-i-init : goal.loop-i-init
+unfolding term_at
+loop-i-init c = (rw c.first-t.ensures going_start, c.first-t.ensures, omega arith)
+
+pub put_number-m-requires : goal.put_number-m-requires
+put_number-m-requires c = let l = c.loop-i in (omega (arith, low_term l.t l.i l.invariant.1 (omega arith)), room_first _ (going_room c.requires.1 (same_rest (all_more _ _ _ _ _ c.loop-i-test.true) l.invariant.0)))
+
+pub next-t-requires : goal.next-t-requires
+next-t-requires c = let l = c.loop-i in omega (arith, low_term l.t l.i l.invariant.1 (omega arith))
+
+pub loop-i-preserved : goal.loop-i-preserved
+loop-i-preserved c = let l = c.loop-i in (rw c.next-t.ensures (going_step (same_rest (all_more _ _ _ _ _ c.loop-i-test.true) l.invariant.0) c.put_number-m.ensures), term_more l.t c.next-t.result l.i l.invariant.1 c.next-t.ensures, omega arith)
+
+pub shape_of-buf : goal.shape_of-buf
+shape_of-buf c = c.loop-i.invariant.0.long
+
+pub returns : goal.returns
+returns c = going_end (same_rest (all_none _ _ _ _ c.loop-i-test.false) c.loop-i.invariant.0)

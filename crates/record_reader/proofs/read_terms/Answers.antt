@@ -1,0 +1,41 @@
+-- `record_reader::read_terms` meets its contract: the loop's invariant: the numbers that were filled in, with those of the terms that are left, are all of them. Assumes nothing.
+use Rattle.record_reader.proofs.Laws.{Filling, filling_start, filling_step, filling_end}
+use Rattle.record_format.specs.Formats.{solved_by}
+use Rattle.record_scan.specs.Slots.{read_slots}
+use Rattle.sip_terms.proofs.Places.{low_term, term_more}
+use Rattle.sip_terms.specs.Terms.{first_term, term_at}
+use lib.ListN.{length, length-set}
+use Prim.Native.Nat.{◌+◌, ◌-◌, ◌≤◌}
+use mathlib.Core.Path.{◌≡◌, refl, ap, ◌∙◌}
+use native.Mathlib.Omega.{arith}
+use borrow.Author.Rules.{rules}
+use Rattle.record_lines.specs.Table.{term_slots}
+use Rattle.record_reader.proofs.read_terms.Goals as goal
+
+pub loop-i-init : goal.loop-i-init
+unfolding term_at
+loop-i-init c = (filling_start _ _ _ _ _ _ _ c.first-t.ensures, c.first-t.ensures, omega arith, refl, omega arith)
+
+pub term_line-l-requires : goal.term_line-l-requires
+term_line-l-requires c = let l = c.loop-i in (omega (arith, low_term l.t l.i l.invariant.1 (omega arith)), omega arith)
+
+pub next-t-requires : goal.next-t-requires
+next-t-requires c = let l = c.loop-i in omega (arith, low_term l.t l.i l.invariant.1 (omega arith))
+
+pub loop-i-smaller : goal.loop-i-smaller
+loop-i-smaller c = simp length-set (omega arith)
+
+pub loop-i-preserved : goal.loop-i-preserved
+loop-i-preserved c =
+    let l = c.loop-i in
+    let f = c.of-format.result in
+    let x = c.solved.ensures ∙ ap (solved_by f) c.of_bits.ensures in
+    let e = c.term_line-l.ensures in
+    (filling_step (solved_by f) _ _ _ _ l.out _ l.t _ l.i _ _ (omega arith) (omega arith) e.0 x c.next-t.ensures l.invariant.0, term_more l.t _ l.i l.invariant.1 c.next-t.ensures, omega (arith, e.1), simp length-set l.invariant.3, simp length-set (omega arith))
+
+pub returns : goal.returns
+returns c =
+    let l = c.loop-i in
+    let f = c.of-format in
+    let e = filling_end (solved_by f.result) _ _ _ _ l.out _ l.t l.i l.invariant.3 (omega arith) l.invariant.0 in
+    (e.0, rw (← f.ensures) e.1, omega arith)

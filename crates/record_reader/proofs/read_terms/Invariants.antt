@@ -1,0 +1,19 @@
+-- `record_reader::read_terms` meets its contract: the loop's invariant: the numbers that were filled in, with those of the terms that are left, are all of them. Assumes nothing.
+use Rattle.record_reader.proofs.Laws.{Filling, filling_start, filling_step, filling_end}
+use Rattle.record_format.specs.Formats.{solved_by}
+use Rattle.record_scan.specs.Slots.{read_slots}
+use Rattle.sip_terms.proofs.Places.{low_term, term_more}
+use Rattle.sip_terms.specs.Terms.{first_term, term_at}
+use lib.ListN.{length, length-set}
+use Prim.Native.Nat.{◌+◌, ◌-◌, ◌≤◌}
+use mathlib.Core.Path.{◌≡◌, refl, ap, ◌∙◌}
+use native.Mathlib.Omega.{arith}
+use borrow.Author.Rules.{rules}
+use Rattle.record_lines.specs.Table.{term_slots}
+use Rattle.record_reader.proofs.read_terms.Given as goal
+
+abbrev pub invariant-loop-i : goal.invariant-loop-i
+invariant-loop-i l = Filling (solved_by l.format) l.s l.letter (read_slots (term_slots l.letter first_term (length l.initial.out)) l.s l.initial.here) (length l.initial.out) l.out l.here l.t l.i × (l.t ≡ term_at l.i) × (l.here.line ≤ l.initial.here.line + l.i) × (length l.out ≡ length l.initial.out) × (l.i ≤ length l.out)
+
+abbrev pub decreases-loop-i : goal.decreases-loop-i
+decreases-loop-i l = length l.out - l.i

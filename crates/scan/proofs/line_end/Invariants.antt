@@ -1,0 +1,14 @@
+-- `scan::line_end` meets its contract: the loop's invariant: the line ends where it ends from here.
+use native.Mathlib.Omega.{arith}
+use Prim.Native.Nat.{◌-◌}
+use mathlib.Core.Path.{◌≡◌, refl, ◌∙◌}
+use lib.ListN.{length, drop}
+use Rattle.scan.specs.Read.{line_end}
+use Rattle.scan.proofs.Reading.{line_more, line_found, line_none}
+use Rattle.scan.proofs.line_end.Given as goal
+
+abbrev pub invariant-loop-p : goal.invariant-loop-p
+invariant-loop-p l = line_end (drop l.p l.s) l.p ≡ line_end (drop l.at l.s) l.at
+
+abbrev pub decreases-loop-p : goal.decreases-loop-p
+decreases-loop-p l = length l.s - l.p

@@ -1,0 +1,47 @@
+-- `sip::fit_into` meets its contract: a fit that is done is copied, and any other leaves the lists. Assumes nothing.
+use Rattle.answer.specs.declared.Answer.TheVariants as answer
+use native.Mathlib.Omega.{arith}
+use Rattle.sip.proofs.Ending.{copied}
+use Rattle.sip.specs.Call.{coefficients_a, coefficients_b, answer_of}
+use Rattle.sip_rounds.specs.Rounds.{rounds_of}
+use Rattle.sip_sums.specs.Field.{field}
+use Rattle.rows.specs.Rows.{rows}
+use lib.Seq.{length-take-le}
+use mathlib.Core.Path.{◌≡◌, ◌∙◌, sym}
+use borrow.Author.Rules.{rules}
+use Rattle.sip.proofs.fit_into.Goals as goal
+
+pub fit_terms-requires : goal.fit_terms-requires
+fit_terms-requires c = record { py_len_1 = c.requires.py_len_1; py_len_2 = c.requires.py_len_2; py_len_3 = c.requires.py_len_3; py_len_4 = c.requires.py_len_4; py_len_5 = c.requires.py_len_5; n_bound_1 = c.requires.n_bound_1; n_bound_2 = c.requires.n_bound_2; n_bound_3 = c.requires.n_bound_3 }
+
+pub slice_bounds-copy_row-end : goal.slice_bounds-copy_row-end
+slice_bounds-copy_row-end c = c.requires.n_bound_4
+
+pub slice_bounds-copy_row-end-in-Fitted : goal.slice_bounds-copy_row-end-in-Fitted
+slice_bounds-copy_row-end-in-Fitted c = sym (length-take-le _ _ c.requires.n_bound_4)
+
+pub copy_row-requires : goal.copy_row-requires
+copy_row-requires c = omega (arith, length-take-le c.args.n c.args.a.now c.requires.n_bound_4, c.fit_terms.auto.a ∙ c.requires.n_bound_2, c.fit_terms.auto.b ∙ c.requires.n_bound_3)
+
+pub slice_bounds-copy_row-end-in-Fitted-2 : goal.slice_bounds-copy_row-end-in-Fitted-2
+slice_bounds-copy_row-end-in-Fitted-2 c = c.requires.n_bound_5
+
+pub slice_bounds-copy_row-end-in-Fitted-3 : goal.slice_bounds-copy_row-end-in-Fitted-3
+slice_bounds-copy_row-end-in-Fitted-3 c = sym (length-take-le _ _ c.requires.n_bound_5)
+
+pub copy_row-requires-in-Fitted : goal.copy_row-requires-in-Fitted
+copy_row-requires-in-Fitted c = omega (arith, length-take-le c.args.n c.args.b.now c.requires.n_bound_5, c.fit_terms.auto.a ∙ c.requires.n_bound_2, c.fit_terms.auto.b ∙ c.requires.n_bound_3)
+
+pub returns-in-Refused : goal.returns-in-Refused
+returns-in-Refused c = let it = (sym c.in-Refused.is ∙ c.fit_terms.ensures.answer, search rules) in record { answer = it.0; a = it.1.0; b = it.1.1 }
+
+pub returns-in-Fitted : goal.returns-in-Fitted
+returns-in-Fitted c = let p = c.fit_terms in let g = c.args in
+    let f = field (rows g.px.now g.py.now g.xi.now g.eta.now) g.snr.now g.wcs in
+    let d : answer_of p.result ≡ answer.Done = rw c.in let it = -Fitted.is in (
+      sym c.in-Fitted.is ∙ p.ensures.answer,
+      (
+        copied c.copy_row.new.to p.new.a (coefficients_a (rounds_of f g.n)) g.a.now g.n (p.auto.a ∙ c.requires.n_bound_2) c.copy_row.ensures (p.ensures.a d),
+        copied c.copy_row-in-Fitted.new.to p.new.b (coefficients_b (rounds_of f g.n)) g.b.now g.n (p.auto.b ∙ c.requires.n_bound_3) c.copy_row-in-Fitted.ensures (p.ensures.b d),
+      ),
+    ) in record { answer = it.0; a = it.1.0; b = it.1.1 }

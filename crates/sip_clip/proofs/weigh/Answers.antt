@@ -1,0 +1,16 @@
+-- `sip_clip::weigh` meets its contract: after k rows the sum is that of the first k. Assumes nothing.
+use borrow.Author.Rules.{rules}
+use Rattle.sip_clip.specs.Clip.{weighed_to}
+use lib.ListN.{length}
+use native.Mathlib.Omega.{arith}
+use native.Mathlib.Numerals.{add-one}
+use mathlib.Core.Path.{◌≡◌, ◌∙◌}
+use Prim.Native.Nat.{◌≤◌, ◌-◌}
+use Rattle.sip_clip.proofs.weigh.Goals as goal
+
+pub loop-k-preserved : goal.loop-k-preserved
+unfolding weighed_to
+loop-k-preserved c = let l = c.loop-k in (c.plus_if-sum.ensures ∙ rw (add-one l.k, l.invariant.0), omega arith, search rules)
+
+pub returns : goal.returns
+returns c = let l = c.loop-k in let e : l.k ≡ length c.args.snr.now = omega arith in rw (← e) l.invariant.0

@@ -1,0 +1,14 @@
+-- `sip_rounds::fit_rounds` meets its contract: what is left of the rounds, from the mask at hand, comes to the whole. Assumes nothing.
+use borrow.Author.Rules.{rules}
+use Rattle.sip_rounds.proofs.Turns.{round_failed, round_ended, round_goes_on, errors_kept, round_last}
+use Rattle.sip_rounds.specs.Rounds.{rounds_from}
+use Rattle.sip_sums.specs.Field.{field}
+use Rattle.rows.specs.Rows.{rows}
+use lib.ListN.{length}
+use native.Mathlib.Omega.{arith}
+use mathlib.Core.Path.{◌≡◌, ◌∙◌, sym}
+use Prim.Native.Nat.{◌≤◌, ◌-◌, ℕ}
+use Rattle.sip_rounds.proofs.fit_rounds.Given as goal
+
+abbrev pub invariant-loop-round : goal.invariant-loop-round
+invariant-loop-round l = (rounds_from (field (rows l.px l.py l.xi l.eta) l.snr l.wcs) l.n (10 - l.round) l.mask ≡ rounds_from (field (rows l.px l.py l.xi l.eta) l.snr l.wcs) l.n 10 l.initial.mask) × (l.round ≤ 10) × (length l.mask ≡ length l.px) × (length l.errors ≡ length l.px) × (length l.a ≡ l.n) × (length l.b ≡ l.n) × (length l.initial.mask ≡ length l.px) × (length l.initial.errors ≡ length l.px) × (length l.initial.a ≡ l.n) × (length l.initial.b ≡ l.n)

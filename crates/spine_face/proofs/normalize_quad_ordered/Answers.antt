@@ -1,0 +1,23 @@
+-- `spine_face::normalize_quad_ordered` meets its contract: a refusal keeps both lists, and a quad goes where there is room. Assumes nothing.
+use Rattle.spine_face.specs.Face.{quad_room}
+use lib.ListN.{length}
+use Rattle.answer.proofs.Lent.{stays}
+use Rattle.answer.specs.Answers.{answer_number, in_turn}
+use mathlib.Core.Path.{ap, ◌∙◌}
+use borrow.Author.Rules.{rules}
+use Rattle.spine_face.proofs.normalize_quad_ordered.Goals as goal
+
+pub returns-in-Refused : goal.returns-in-Refused
+returns-in-Refused c =
+    let a = c.args in
+    let turn = in_turn c.in let it = -Refused.why (quad_room (length a.hash.now) (length a.places.now)) in
+    rw (← c.normalize_quad_ordered.ensures, c.in-Refused.is) (
+      c.number.ensures ∙ ap answer_number (c.in_turn.ensures ∙ ap (in_turn c.in-Refused.why) c.quad_room-room.ensures),
+      (
+        stays turn _,
+        stays turn _,
+      ),
+    ) in record { number = it.0; hash = it.1.0; places = it.1.1 }
+
+pub returns-in-Hashed : goal.returns-in-Hashed
+returns-in-Hashed c = rw (← c.normalize_quad_ordered.ensures, c.in-Hashed.is) (record { number = c.number-in-Hashed.ensures ∙ ap answer_number c.put_quad.ensures.answer; hash = c.put_quad.ensures.hash; places = c.put_quad.ensures.places })

@@ -1,0 +1,19 @@
+-- `verify::count_of` meets its contract: the tests decide, then the calls give what the definition names. Assumes nothing.
+use Rattle.verify.specs.Score.{fit_triple}
+use borrow.Author.Rules.{rules}
+use Rattle.verify.proofs.count_of.Goals as goal
+
+pub returns-then-is_repeated : goal.returns-then-is_repeated
+unfolding fit_triple
+returns-then-is_repeated c = rw (← c.is_repeated.ensures, c.if-is_repeated.true)
+
+pub count_agreeing-requires : goal.count_agreeing-requires
+count_agreeing-requires c = record { fact_1 = c.requires.py_len_1; fact_2 = c.requires.py_len_2; fact_3 = c.requires.py_len_3 }
+
+pub returns-in-Refused : goal.returns-in-Refused
+unfolding fit_triple
+returns-in-Refused c = rw (← c.is_repeated.ensures, c.if-is_repeated.false, ← c.row_at-p.ensures, ← c.row_at-q.ensures, ← c.row_at-r.ensures, ← c.fit_rows.ensures, c.in-Refused.is)
+
+pub returns-in-Fitted : goal.returns-in-Fitted
+unfolding fit_triple
+returns-in-Fitted c = rw (← c.is_repeated.ensures, c.if-is_repeated.false, ← c.row_at-p.ensures, ← c.row_at-q.ensures, ← c.row_at-r.ensures, ← c.fit_rows.ensures, c.in-Fitted.is) c.count_agreeing.ensures

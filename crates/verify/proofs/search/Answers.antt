@@ -1,0 +1,34 @@
+-- `verify::search` meets its contract: after so many trials the word and the best count are those of the definition's run. Assumes nothing.
+use borrow.Author.Rules.{rules}
+use Rattle.verify.specs.Score.{fit_triple, limit, start_word, score_of, drawn}
+use Rattle.draw.proofs.Drawing.{triple_in}
+use Rattle.draw.proofs.Holding.{Scoring, scoring_none, scoring_one}
+use Rattle.affine.specs.Affine.{agreeing}
+use Rattle.rows.specs.Rows.{rows}
+use lib.ListN.{length}
+use native.Mathlib.Omega.{arith}
+use mathlib.Core.Path.{◌≡◌, ◌∙◌, ap}
+use Prim.Native.Nat.{◌≤◌, ◌-◌}
+use Rattle.verify.proofs.search.Goals as goal
+
+pub loop-init : goal.loop-init
+loop-init c = (search rules, scoring_none _ _ _ _)
+
+pub count_of-requires : goal.count_of-requires
+count_of-requires c = let w = triple_in (length c.args.px.now) c.loop.word c.requires.px_nonzero in let it = (c.requires.py_len_1, (c.requires.py_len_2, (c.requires.py_len_3, rw c.draw_three-t.ensures (w.a_in, (w.b_in, w.c_in))))) in record { py_len_1 = it.0; py_len_2 = it.1.0; py_len_3 = it.1.1.0; a_in_bounds_1 = it.1.1.1.0; a_in_bounds_2 = it.1.1.1.1.0; a_in_bounds_3 = it.1.1.1.1.1 }
+
+pub loop-preserved : goal.loop-preserved
+loop-preserved c =
+    let l = c.loop in
+    let s = c.args in
+    let r = rows s.px.now s.py.now s.xi.now s.eta.now in (
+      search rules,
+      rw c.larger-best.ensures (scoring_one (fit_triple r) (agreeing r limit) (length s.px.now) start_word l.counter l.word l.best l.invariant.1 _ _ (ap (λ t. t.word) c.draw_three-t.ensures) (c.count_of.ensures ∙ rw c.draw_three-t.ensures)),
+    )
+
+pub returns : goal.returns
+unfolding score_of drawn
+returns c =
+    let l = c.loop in
+    let e : l.counter ≡ 1000 = omega arith in
+    rw (← e) l.invariant.1.score

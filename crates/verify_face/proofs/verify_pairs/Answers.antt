@@ -1,0 +1,11 @@
+-- `verify_face::verify_pairs` meets its contract: the inner call decides, and the score is handed out where it is done. Assumes nothing.
+use mathlib.Core.Path.{refl, sym, ◌∙◌}
+use borrow.Author.Rules.{rules}
+use Rattle.answer.proofs.Numbers.{not_done}
+use Rattle.verify_face.proofs.verify_pairs.Goals as goal
+
+pub returns-in-Refused : goal.returns-in-Refused
+returns-in-Refused c = rw (← c.verify_pairs.ensures.answer, c.in-Refused.is) (record { number = c.number.ensures; score = refl; best = λ z. absurd (not_done c.in-Refused.why (sym c.number.ensures ∙ z)) })
+
+pub returns-in-Scored : goal.returns-in-Scored
+returns-in-Scored c = rw (← c.verify_pairs.ensures.answer, c.in-Scored.is) (record { number = refl; score = refl; best = λ z. c.verify_pairs.ensures.best _ c.in-Scored.is })
