@@ -36,5 +36,6 @@ triple_in n w h = record { a_in = mod-lt (next_word w) h; b_in = mod-lt (next_wo
 -- every triple of a run is of places of n
 pub triples_in : (n k w : ℕ) → 0 < n → {t : Triple} → Memᴰ t (triples n k w) → Within n t
 unfolding triples
+triples_in n zero w h {t = t} m = elim m [ ]
 triples_in n (suc k) w h (Memᴰ.head e) = rw e (triple_in n w h)
 triples_in n (suc k) w h (Memᴰ.tail m) = triples_in n k (three_words w) h m

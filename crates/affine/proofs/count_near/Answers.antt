@@ -10,6 +10,10 @@ use Prim.Native.Nat.{◌≤◌, ◌-◌}
 use borrow.Author.Rules.{rules}
 use Rattle.affine.proofs.count_near.Goals as goal
 
+pub loop-i-init : goal.loop-i-init
+unfolding near_rows
+loop-i-init c = search rules
+
 pub overflow_add-count : goal.overflow_add-count
 overflow_add-count c = omega (arith, one_at_most c.is_near.result, c.one_if-count.ensures)
 

@@ -14,4 +14,4 @@ returns-in-Refused c = record { answer = rw (← c.check_input.ensures, c.in-Ref
 
 pub returns-in-Done : goal.returns-in-Done
 unfolding pairs_answer vote_pairs
-returns-in-Done c = let it = (rw (← c.check_input.ensures, c.in-Done.is) c.put_pairs.ensures.answer, (c.put_pairs.ensures.px, (c.put_pairs.ensures.py, (c.put_pairs.ensures.ra, (c.put_pairs.ensures.dec, (c.put_pairs.ensures.votes, (c.put_pairs.ensures.snr)))))) in record { answer = it.0; px = it.1.0; py = it.1.1.0; ra = it.1.1.1.0; dec = it.1.1.1.1.0; votes = it.1.1.1.1.1.0; snr = it.1.1.1.1.1.1 }
+returns-in-Done c = record { answer = rw (← c.check_input.ensures, c.in-Done.is) c.put_pairs.ensures.answer; px = c.put_pairs.ensures.px; py = c.put_pairs.ensures.py; ra = c.put_pairs.ensures.ra; dec = c.put_pairs.ensures.dec; votes = c.put_pairs.ensures.votes; snr = c.put_pairs.ensures.snr }

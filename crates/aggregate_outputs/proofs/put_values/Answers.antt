@@ -16,7 +16,7 @@ pub loop-p-preserved : goal.loop-p-preserved
 loop-p-preserved c =
     let a = c.args in
     let l = c.loop-p in
-    (omega arith, simp length-set l.invariant.1, put_step (λ d. get_or a.src.now d nan) l.p a.order.now a.out.now l.out c.value_of_lem.result l.invariant.2 (rw c.detection_in.ensures at c.value_of_lem.ensures) (omega (arith, c.requires.fact_1)) (omega (arith, c.requires.fact_2)))
+    (omega arith, simp length-set l.invariant.1, put_step (λ d. get_or a.src.now d nan) l.p a.order.now a.out.now l.out c.value_of.result l.invariant.2 (rw c.detection_in.ensures at c.value_of.ensures) (omega (arith, c.requires.fact_1)) (omega (arith, c.requires.fact_2)))
 
 pub shape_of-out : goal.shape_of-out
 shape_of-out c = c.loop-p.invariant.1

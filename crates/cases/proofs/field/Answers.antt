@@ -7,6 +7,10 @@ use native.Mathlib.Omega.{arith}
 use Rattle.cases.specs.Fields.{field_after}
 use Rattle.cases.proofs.field.Goals as goal
 
+pub loop-init : goal.loop-init
+unfolding field_after
+loop-init c = search rules
+
 pub loop-preserved : goal.loop-preserved
 unfolding field_after
 loop-preserved c = (rw (add-one, ← c.loop.invariant.0) c.next_field-p.ensures, omega arith)

@@ -7,6 +7,10 @@ use native.Mathlib.Omega.{arith}
 use Rattle.cases.specs.Fields.{member_after}
 use Rattle.cases.proofs.member.Goals as goal
 
+pub loop-init : goal.loop-init
+unfolding member_after
+loop-init c = search rules
+
 pub loop-preserved : goal.loop-preserved
 unfolding member_after
 loop-preserved c = (rw (add-one, ← c.loop.invariant.0) c.after_number-p.ensures, omega arith)

@@ -5,13 +5,14 @@ use Prim.Native.Nat.{ℕ, ◌-◌, ◌≤◌}
 use native.Mathlib.Omega.{arith}
 use lib.ListN.{length, drop}
 use Rattle.scan.proofs.Reading.{line_within}
+use Rattle.cases_sip.proofs.answer_all.Goals.{After-line_end-end}
 use Rattle.cases_sip.proofs.answer_all.Goals as goal
 
 -- a line does not end before it starts
-passed : (c : tie.After-line-end invariant-loop decreases-loop) → c.before.before.before.loop.at ≤ c.line-end.result
+passed : (c : After-line_end-end) → c.loop-at.at ≤ c.line_end-end.result
 passed c =
-    let at = c.before.before.before.loop.at in
-    subst (λ (k : ℕ). at ≤ k) (sym c.line-end.ensures) (line_within (drop at c.before.before.before.before.before.args.s.now) at).0
+    let at = c.loop-at.at in
+    subst (λ (k : ℕ). at ≤ k) (sym c.line_end-end.ensures) (line_within (drop at c.args.s.now) at).0
 
 pub loop-at-smaller : goal.loop-at-smaller
 loop-at-smaller c = omega (arith, passed c.before)

@@ -18,53 +18,55 @@ use Rattle.cd_clip.specs.Clip.{clip_from}
 use Rattle.cd_clip.proofs.Loops.{Summed, sum_none, sum_next, all_on, Sifted, sift_none, sift_next, left_few}
 use Rattle.cd_clip.proofs.Rounds.{Parts, parts_of, few_on, none_rejected, few_left, goes_on, stopped}
 use Rattle.cd_clip.proofs.Passed.{masked}
+use Rattle.cd_clip.proofs.clip_rounds.Goals.{After-loop-i, After-loop-i-2, In-rounds}
+use mathlib.Core.Bool.{not}
 use Rattle.cd_clip.proofs.clip_rounds.Goals as goal
 
 -- a round: what it begins with
-module _ (c : tie.In-rounds invariant-loop decreases-loop invariant-loop2 decreases-loop2 invariant-rounds decreases-rounds) where
+module _ (c : In-rounds) where
   abbrev its-rows : Rows
-  its-rows = rows c.before.before.before.before.before.before.before.before.before.before.args.px.now c.before.before.before.before.before.before.before.before.before.before.args.py.now c.before.before.before.before.before.before.before.before.before.before.args.xi.now c.before.before.before.before.before.before.before.before.before.before.args.eta.now
+  its-rows = rows c.args.px.now c.args.py.now c.args.xi.now c.args.eta.now
 
   abbrev its-weights : List Float
-  its-weights = c.before.before.before.before.before.before.before.before.before.before.args.weights.now
+  its-weights = c.args.weights.now
 
   abbrev its-mask : List ℕ
-  its-mask = c.before.rounds.mask
+  its-mask = c.rounds.mask
 
   abbrev its-plate : Cd
-  its-plate = c.before.rounds.cd
+  its-plate = c.rounds.cd
 
   -- how many rounds are to come
   abbrev to-come : ℕ
-  to-come = 10 - (c.before.rounds.counter + 1)
+  to-come = 10 - (c.rounds.counter + 1)
 
   mask_long : length its-mask ≡ count its-rows
-  mask_long = c.before.rounds.invariant.2
+  mask_long = c.rounds.invariant.2
 
-  errors-long : length c.before.rounds.errors ≡ count its-rows
-  errors-long = c.before.rounds.invariant.3
+  errors-long : length c.rounds.errors ≡ count its-rows
+  errors-long = c.rounds.invariant.3
 
   weights_long : length its-weights ≡ count its-rows
-  weights_long = c.before.before.before.before.before.before.before.before.before.before.requires.0.weights_long
+  weights_long = c.requires.fact_1.weights_long
 
-  roots-long : length c.before.before.before.before.before.before.before.before.before.before.args.roots.now ≡ count its-rows
-  roots-long = ap length c.before.before.before.before.before.before.before.before.before.before.requires.1.0 ∙ filled_length (root_at its-weights) (length its-weights) ∙ weights_long
+  roots-long : length c.args.roots.now ≡ count its-rows
+  roots-long = ap length c.requires.fact_2 ∙ filled_length (root_at its-weights) (length its-weights) ∙ weights_long
 
   -- with those to come the round comes to the whole
-  turn : clip_from (suc to-come) its-rows its-weights its-mask its-plate ≡ clip_from 10 its-rows its-weights c.before.before.before.before.before.before.before.before.before.before.args.mask.now c.before.before.before.before.before.before.before.before.before.before.args.start
+  turn : clip_from (suc to-come) its-rows its-weights its-mask its-plate ≡ clip_from 10 its-rows its-weights c.args.mask.now c.args.start
   turn =
-      let e : 10 - c.before.rounds.counter ≡ suc to-come = omega (arith, c.rounds-test.true) in
-      rw e at c.before.rounds.invariant.0
+      let e : 10 - c.rounds.counter ≡ suc to-come = omega (arith, c.rounds-test.true) in
+      rw e at c.rounds.invariant.0
 
 -- after the first loop: how many rows are on
-on_are : (c : tie.After-loop invariant-loop decreases-loop invariant-loop2 decreases-loop2 invariant-rounds decreases-rounds) → c.before.loop.on ≡ ones (its-mask c.before.before.before)
-on_are c = all_on _ _ _ _ _ c.before.loop.invariant.0 (omega (arith, c.loop-test.false, c.before.loop.invariant.1)) (mask_long c.before.before.before) (errors-long c.before.before.before)
+on_are : (c : After-loop-i) → c.loop-i.on ≡ ones (its-mask c.before.before.before)
+on_are c = all_on _ _ _ _ _ c.loop-i.invariant.0 (omega (arith, c.loop-i-test.false, c.loop-i.invariant.1)) (mask_long c.before.before.before) (errors-long c.before.before.before)
 
 -- after the second: what the parts of the round gave
-parts : (c : tie.After-loop2 invariant-loop decreases-loop invariant-loop2 decreases-loop2 invariant-rounds decreases-rounds)
-    → Parts (its-rows c.before.before.before.before.before.before.before) (its-weights c.before.before.before.before.before.before.before) (its-mask c.before.before.before.before.before.before.before) (its-plate c.before.before.before.before.before.before.before) c.before.before.before.before.before.loop.errors c.before.before.before.before.before.before.before.before.before.before.before.before.before.before.before.before.before.args.roots.now c.before.before.before.before.before.loop.on c.before.before.before.before.before.loop.sum c.before.before.of.result c.before.loop2.any c.before.loop2.mask c.before.loop2.left
+parts : (c : After-loop-i-2)
+    → Parts (its-rows c.before.before.before.before.before.before.before) (its-weights c.before.before.before.before.before.before.before) (its-mask c.before.before.before.before.before.before.before) (its-plate c.before.before.before.before.before.before.before) c.loop-i.errors c.args.roots.now c.loop-i.on c.loop-i.sum c.of-clip.result c.loop-i-2.any c.loop-i-2.mask c.loop-i-2.left
 parts c =
-    parts_of (mask_long c.before.before.before.before.before.before.before) (errors-long c.before.before.before.before.before.before.before) c.before.before.before.before.before.before.inverse.ensures c.before.before.before.before.before.before.before.before.before.before.before.before.before.before.before.before.before.requires.1.0 c.before.before.of.ensures c.before.before.before.before.before.loop.invariant.0 (omega (arith, c.before.before.before.before.loop-test.false, c.before.before.before.before.before.loop.invariant.1)) c.before.loop2.invariant.0 (omega (arith, c.loop2-test.false, c.before.loop2.invariant.1))
+    parts_of (mask_long c.before.before.before.before.before.before.before) (errors-long c.before.before.before.before.before.before.before) c.inverse-v.ensures c.requires.fact_2 c.of-clip.ensures c.loop-i.invariant.0 (omega (arith, c.loop-i-test.false, c.loop-i.invariant.1)) c.loop-i-2.invariant.0 (omega (arith, c.loop-i-2-test.false, c.loop-i-2.invariant.1))
 
 pub rounds-init : goal.rounds-init
 rounds-init c = (refl, search rules, c.requires.fact_1.mask_long, c.requires.fact_3)
@@ -78,28 +80,17 @@ bounds-mask-i c = rw (mask_long c.before.before.before.before) c.loop-i-test.tru
 pub row_at-requires : goal.row_at-requires
 row_at-requires c = let k = c.requires.fact_1 in let t = c.loop-i-test.true in (t, (omega (arith, t, k.py_long), (omega (arith, t, k.xi_long), omega (arith, t, k.eta_long))))
 
-error-if-requires :
-    tie.Need-error-if-requires invariant-loop decreases-loop invariant-loop2 decreases-loop2 invariant-rounds decreases-rounds
-error-if-requires c κs = search rules
-
 pub offset_bounds-errors-i : goal.offset_bounds-errors-i
 offset_bounds-errors-i c = omega (arith, c.loop-i-test.true, c.requires.fact_1.few)
 
-slice-write-errors :
-    tie.Need-slice-write-errors invariant-loop decreases-loop invariant-loop2 decreases-loop2 invariant-rounds decreases-rounds
-slice-write-errors c = omega (arith, c.loop-i-test.true, c.loop-i.invariant.0.front.long, errors-long c.before.before.before.before.before.before)
+pub bounds-errors-i : goal.bounds-errors-i
+bounds-errors-i c = omega (arith, c.loop-i-test.true, c.loop-i.invariant.0.front.long, errors-long c.before.before.before.before.before.before)
 
-mul-with-square-if :
-    tie.Need-overflow-mul-with-square-if invariant-loop decreases-loop invariant-loop2 decreases-loop2 invariant-rounds decreases-rounds
-mul-with-square-if c = omega (arith, c.loop-i-test.true, c.requires.fact_1.few)
+pub offset_bounds-weights-i : goal.offset_bounds-weights-i
+offset_bounds-weights-i c = omega (arith, c.loop-i-test.true, c.requires.fact_1.few)
 
-shared-slice-read-with-square-if :
-    tie.Need-shared-slice-read-with-square-if invariant-loop decreases-loop invariant-loop2 decreases-loop2 invariant-rounds decreases-rounds
-shared-slice-read-with-square-if c = omega (arith, c.loop-i-test.true, weights_long c.before.before.before.before.before.before.before)
-
-with-square-if-requires :
-    tie.Need-with-square-if-requires invariant-loop decreases-loop invariant-loop2 decreases-loop2 invariant-rounds decreases-rounds
-with-square-if-requires c κs = search rules
+pub bounds-weights-i : goal.bounds-weights-i
+bounds-weights-i c = omega (arith, c.loop-i-test.true, weights_long c.before.before.before.before.before.before.before)
 
 pub overflow_add-on : goal.overflow_add-on
 overflow_add-on c = omega (arith, byte_small (eqb (get_or (its-mask c.before.before.before.before.before.before.before.before.before) c.loop-i.i 0) 1) c.is_on-on.ensures, c.loop-i.invariant.0.on_few, c.loop-i-test.true, c.requires.fact_1.few)
@@ -128,23 +119,14 @@ bounds-mask-i-in-loop-i-2 c = omega (arith, c.loop-i-2-test.true, c.loop-i-2.inv
 pub offset_bounds-errors-i-in-loop-i-2 : goal.offset_bounds-errors-i-in-loop-i-2
 offset_bounds-errors-i-in-loop-i-2 c = omega (arith, c.loop-i-2-test.true, c.requires.fact_1.few)
 
-slice-read-rejects :
-    tie.Need-slice-read-rejects invariant-loop decreases-loop invariant-loop2 decreases-loop2 invariant-rounds decreases-rounds
-slice-read-rejects c = omega (arith, c.loop-i-2-test.true, c.loop-i.invariant.0.front.long, errors-long c.before.before.before.before.before.before.before.before.before)
+pub bounds-errors-i-in-loop-i-2 : goal.bounds-errors-i-in-loop-i-2
+bounds-errors-i-in-loop-i-2 c = omega (arith, c.loop-i-2-test.true, c.loop-i.invariant.0.front.long, errors-long c.before.before.before.before.before.before.before.before.before)
 
 pub offset_bounds-roots-i : goal.offset_bounds-roots-i
 offset_bounds-roots-i c = omega (arith, c.loop-i-2-test.true, c.requires.fact_1.few)
 
-shared-slice-read-rejects :
-    tie.Need-shared-slice-read-rejects invariant-loop decreases-loop invariant-loop2 decreases-loop2 invariant-rounds decreases-rounds
-shared-slice-read-rejects c = omega (arith, c.loop-i-2-test.true, roots-long c.before.before.before.before.before.before.before.before.before.before)
-
-pub rejects-out-requires : goal.rejects-out-requires
-rejects-out-requires c = search rules
-
-byte-left-requires :
-    tie.Need-byte-left-requires invariant-loop decreases-loop invariant-loop2 decreases-loop2 invariant-rounds decreases-rounds
-byte-left-requires c κs = search rules
+pub bounds-roots-i : goal.bounds-roots-i
+bounds-roots-i c = omega (arith, c.loop-i-2-test.true, roots-long c.before.before.before.before.before.before.before.before.before.before)
 
 pub bounds-mask-i-in-loop-i-2-2 : goal.bounds-mask-i-in-loop-i-2-2
 bounds-mask-i-in-loop-i-2-2 c = omega (arith, c.loop-i-2-test.true, c.loop-i-2.invariant.0.front.long, mask_long c.before.before.before.before.before.before.before.before.before.before.before.before)
@@ -174,7 +156,7 @@ pub shape_of-errors-in_default : goal.shape_of-errors-in_default
 shape_of-errors-in_default c = c.loop-i.invariant.0.front.long ∙ errors-long c.before.before.before.before.before.before.before.before.before.before.before.before.before ∙ sym c.requires.fact_3
 
 pub returns-in_default : goal.returns-in_default
-returns-in_default c = sym (stopped _ _ _ _ (to-come c.before.before.before.before.before.before.before.before.before.before.before.before.before) (parts c.before.before.before.before.before.before) c.if-on-lt-LEAST_ROWS.false (not-false c.loop-i-2.any c.if-not-any.false) c.if-left-lt-LEAST_ROWS.false _ (sym c.refit.ensures ∙ c.in_default.is)) ∙ turn c.before.before.before.before.before.before.before.before.before.before.before.before.before
+returns-in_default c = sym (stopped _ _ _ _ (to-come c.before.before.before.before.before.before.before.before.before.before.before.before.before) (parts c.before.before.before.before.before.before) c.if-on-lt-LEAST_ROWS.false (not-false c.loop-i-2.any (ap not c.if-not-any.false)) c.if-left-lt-LEAST_ROWS.false _ (sym c.refit.ensures ∙ c.in_default.is)) ∙ turn c.before.before.before.before.before.before.before.before.before.before.before.before.before
 
 pub overflow_step : goal.overflow_step
 overflow_step c = omega (arith, c.rounds-test.true)
@@ -184,7 +166,7 @@ rounds-smaller c = omega (arith, c.rounds-test.true)
 
 pub rounds-preserved : goal.rounds-preserved
 rounds-preserved c = (
-  sym (goes_on _ _ _ _ (to-come c.before.before.before.before.before.before.before.before.before.before.before.before.before.before) (parts c.before.before.before.before.before.before.before) c.if-on-lt-LEAST_ROWS.false (not-false c.loop-i-2.any c.if-not-any.false) c.if-left-lt-LEAST_ROWS.false _ (sym c.refit.ensures ∙ c.in-Plate.is)) ∙ turn c.before.before.before.before.before.before.before.before.before.before.before.before.before.before,
+  sym (goes_on _ _ _ _ (to-come c.before.before.before.before.before.before.before.before.before.before.before.before.before.before) (parts c.before.before.before.before.before.before.before) c.if-on-lt-LEAST_ROWS.false (not-false c.loop-i-2.any (ap not c.if-not-any.false)) c.if-left-lt-LEAST_ROWS.false _ (sym c.refit.ensures ∙ c.in-Plate.is)) ∙ turn c.before.before.before.before.before.before.before.before.before.before.before.before.before.before,
   omega (arith, c.rounds-test.true),
   c.loop-i-2.invariant.0.front.long ∙ mask_long c.before.before.before.before.before.before.before.before.before.before.before.before.before.before,
   c.loop-i.invariant.0.front.long ∙ errors-long c.before.before.before.before.before.before.before.before.before.before.before.before.before.before,
@@ -216,7 +198,7 @@ pub shape_of-errors-then-not-any : goal.shape_of-errors-then-not-any
 shape_of-errors-then-not-any c = c.loop-i.invariant.0.front.long ∙ errors-long c.before.before.before.before.before.before.before.before ∙ sym c.requires.fact_3
 
 pub returns-then-not-any : goal.returns-then-not-any
-returns-then-not-any c = sym (none_rejected _ _ _ _ (to-come c.before.before.before.before.before.before.before.before) (parts c.before) c.if-on-lt-LEAST_ROWS.false (not-true c.loop-i-2.any c.if-not-any.true)) ∙ turn c.before.before.before.before.before.before.before.before
+returns-then-not-any c = sym (none_rejected _ _ _ _ (to-come c.before.before.before.before.before.before.before.before) (parts c.before) c.if-on-lt-LEAST_ROWS.false (not-true c.loop-i-2.any (ap not c.if-not-any.true))) ∙ turn c.before.before.before.before.before.before.before.before
 
 pub shape_of-mask-then-left-lt-LEAST_ROWS : goal.shape_of-mask-then-left-lt-LEAST_ROWS
 shape_of-mask-then-left-lt-LEAST_ROWS c = c.loop-i-2.invariant.0.front.long ∙ mask_long c.before.before.before.before.before.before.before.before.before ∙ sym c.requires.fact_1.mask_long
@@ -225,4 +207,4 @@ pub shape_of-errors-then-left-lt-LEAST_ROWS : goal.shape_of-errors-then-left-lt-
 shape_of-errors-then-left-lt-LEAST_ROWS c = c.loop-i.invariant.0.front.long ∙ errors-long c.before.before.before.before.before.before.before.before.before ∙ sym c.requires.fact_3
 
 pub returns-then-left-lt-LEAST_ROWS : goal.returns-then-left-lt-LEAST_ROWS
-returns-then-left-lt-LEAST_ROWS c = sym (few_left _ _ _ _ (to-come c.before.before.before.before.before.before.before.before.before) (parts c.before.before) c.if-on-lt-LEAST_ROWS.false (not-false c.loop-i-2.any c.if-not-any.false) c.if-left-lt-LEAST_ROWS.true) ∙ turn c.before.before.before.before.before.before.before.before.before
+returns-then-left-lt-LEAST_ROWS c = sym (few_left _ _ _ _ (to-come c.before.before.before.before.before.before.before.before.before) (parts c.before.before) c.if-on-lt-LEAST_ROWS.false (not-false c.loop-i-2.any (ap not c.if-not-any.false)) c.if-left-lt-LEAST_ROWS.true) ∙ turn c.before.before.before.before.before.before.before.before.before

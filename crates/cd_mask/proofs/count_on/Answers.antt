@@ -1,7 +1,8 @@
 -- `cd_mask::count_on` meets its contract: the count, with the ones still to come, is all of them. Assumes nothing.
 use mathlib.Core.Path.{◌≡◌, ap}
 use mathlib.Core.Bool.{Bool}
-use Prim.Native.Nat.{◌≤◌, ◌-◌, ◌+◌}
+use Prim.Native.Nat.{ℕ, ◌≤◌, ◌-◌, ◌+◌}
+use mathlib.Core.List.{List}
 use native.Mathlib.Omega.{arith}
 use lib.Dec.{eqb}
 use lib.ListN.{length, get_or, drop, drop_of_length-le}
@@ -10,17 +11,17 @@ use Rattle.cd_mask.specs.Marks.{ones}
 use Rattle.cd_mask.proofs.Marking.{byte_small, ones_at}
 use Rattle.cd_mask.proofs.count_on.Goals as goal
 
--- whether the row at the loop's place is on
-abbrev here : (c : tie.At-loop invariant-loop decreases-loop) → Bool
-here c = eqb (get_or c.before.before.args.mask.now c.loop.i 0) 1
+-- whether the row at a place is on
+abbrev here : List ℕ → ℕ → Bool
+here mask i = eqb (get_or mask i 0) 1
 
 pub overflow_add-count : goal.overflow_add-count
-overflow_add-count c = omega (arith, byte_small (here c.before.before.before) c.is_on-count.ensures)
+overflow_add-count c = omega (arith, byte_small (here c.args.mask.now c.loop-i.i) c.is_on-count.ensures)
 
 pub loop-i-preserved : goal.loop-i-preserved
 loop-i-preserved c =
     let mask = c.args.mask.now in
-    let small = byte_small (here c.before.before.before) c.is_on-count.ensures in
+    let small = byte_small (here c.args.mask.now c.loop-i.i) c.is_on-count.ensures in
     (search rules, search rules, omega (arith, small), omega (arith, c.is_on-count.ensures, ones_at mask c.loop-i.i (omega arith)))
 
 pub returns : goal.returns

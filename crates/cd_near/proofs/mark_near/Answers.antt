@@ -14,6 +14,10 @@ use lib.ListN.{drop, length-set}
 use borrow.Author.Rules.{rules}
 use Rattle.cd_near.proofs.mark_near.Goals as goal
 
+pub loop-i-init : goal.loop-i-init
+unfolding marks
+loop-i-init c = search rules
+
 pub is_near-requires : goal.is_near-requires
 is_near-requires c = c.requires.fact_5
 

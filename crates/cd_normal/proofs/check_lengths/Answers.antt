@@ -7,6 +7,8 @@ use borrow.Author.Tests.{not-true, not-false, lt-ltb, le-ltb}
 use borrow.Author.Rules.{rules}
 use Rattle.cd_normal.proofs.Done.{square}
 use Rattle.cd_normal.specs.Normal.{tests_answer}
+use mathlib.Core.Path.{ap}
+use mathlib.Core.Bool.{not}
 use Rattle.cd_normal.proofs.check_lengths.Goals as goal
 
 pub returns-then-n-gt-MOST_UNKNOWNS : goal.returns-then-n-gt-MOST_UNKNOWNS
@@ -20,10 +22,10 @@ pub returns-then-not-a-n : goal.returns-then-not-a-n
 unfolding tests_answer
 returns-then-not-a-n c =
     let a = c.args in
-    rw (le-ltb _ _ c.if-n-gt-MOST_UNKNOWNS.false, not-true (eqb a.a (a.n * a.n) && eqb a.b a.n) c.if-not-a-n.true)
+    rw (le-ltb _ _ c.if-n-gt-MOST_UNKNOWNS.false, not-true (eqb a.a (a.n * a.n) && eqb a.b a.n) (ap not c.if-not-a-n.true))
 
 pub returns : goal.returns
 unfolding tests_answer
 returns c =
     let a = c.args in
-    rw (le-ltb _ _ c.if-n-gt-MOST_UNKNOWNS.false, not-false (eqb a.a (a.n * a.n) && eqb a.b a.n) c.if-not-a-n.false) c.room_for.ensures
+    rw (le-ltb _ _ c.if-n-gt-MOST_UNKNOWNS.false, not-false (eqb a.a (a.n * a.n) && eqb a.b a.n) (ap not c.if-not-a-n.false)) c.room_for.ensures

@@ -8,6 +8,10 @@ use mathlib.Core.Path.{◌≡◌}
 use Prim.Native.Nat.{◌≤◌, ◌-◌}
 use Rattle.cd_rms.proofs.sum_squares.Goals as goal
 
+pub loop-i-init : goal.loop-i-init
+unfolding squares_to
+loop-i-init c = search rules
+
 pub loop-i-preserved : goal.loop-i-preserved
 unfolding squares_to
 loop-i-preserved c = (rw (add-one c.loop-i.i, ← c.loop-i.invariant.0), search rules, search rules)

@@ -14,13 +14,6 @@ pub loop-i-init : goal.loop-i-init
 unfolding sums_to
 loop-i-init c = (c.new-s.ensures, search rules, search rules)
 
-pub offset_bounds-weights-i : goal.offset_bounds-weights-i
-offset_bounds-weights-i c = search rules
-
-shared-slice-read-with-weighted-if-2 :
-    tie.Need-shared-slice-read-with-weighted-if-2 invariant-loop decreases-loop
-shared-slice-read-with-weighted-if-2 c = search rules
-
 pub overflow_step-i : goal.overflow_step-i
 overflow_step-i c = omega (arith, c.well_formed.0, c.loop-i-test.true, c.loop-i.invariant.2)
 

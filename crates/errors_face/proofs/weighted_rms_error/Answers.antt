@@ -3,4 +3,4 @@ use borrow.Author.Rules.{rules}
 use Rattle.errors_face.proofs.weighted_rms_error.Goals as goal
 
 pub returns : goal.returns
-returns c = rw (← c.weighted_rms_error.ensures) (c.put_rms.ensures.number, (c.put_rms.ensures.rms)
+returns c = rw (← c.weighted_rms_error.ensures) (record { number = c.put_rms.ensures.number; rms = c.put_rms.ensures.rms })

@@ -3,5 +3,4 @@ use borrow.Author.Rules.{rules}
 use Rattle.fit_face.proofs.fit_cd_weighted.Goals as goal
 
 pub returns : goal.returns
-returns c =
-    rw (← c.fit_cd_weighted.ensures) (c.put_fit.ensures.number, (c.put_fit.ensures.cd)
+returns c = rw (← c.fit_cd_weighted.ensures) (record { number = c.put_fit.ensures.number; cd = c.put_fit.ensures.cd })

@@ -11,6 +11,7 @@ use Rattle.hash_near.proofs.Over.{over_more, over_end}
 use Rattle.hash_near.specs.Over.{over}
 use Rattle.hash_index.specs.Steps.{near_to, Counted}
 use Rattle.hash_index.proofs.Call.{counted_none, counted_more}
+use Rattle.hash_index.proofs.count_all.Goals.{After-count_near-near}
 use Rattle.hash_index.proofs.count_all.Goals as goal
 
 pub loop-i-init : goal.loop-i-init
@@ -18,27 +19,27 @@ loop-i-init c = let a = c.args in
     (omega arith, omega arith, omega arith, rw sub-zero (omega arith), counted_none (near_to a.hashes.now a.lanes.now a.m) a.counts.now)
 
 pub base_at-requires : goal.base_at-requires
-base_at-requires c = omega (arith, (c.requires.fact_1, (c.requires.fact_2))
+base_at-requires c = omega (arith, (c.requires.fact_1, c.requires.fact_2))
 
 pub count_near-near-requires : goal.count_near-near-requires
-count_near-near-requires c = let it = (omega (arith, (c.requires.fact_1, (c.requires.fact_2)), (omega arith, omega (arith, (c.requires.fact_1, (c.requires.fact_2)))) in record { fact_1 = it.0; fact_2 = it.1.0; fact_3 = it.1.1 }
+count_near-near-requires c = record { fact_1 = omega (arith, (c.requires.fact_1, c.requires.fact_2)); fact_2 = omega arith; fact_3 = omega (arith, (c.requires.fact_1, c.requires.fact_2)) }
 
 -- the near ones of image quad i are counted
-counted : (c : tie.After-count-near invariant-loop decreases-loop) → c.count-near.result ≡ length (near_to c.before.before.before.before.before.before.before.args.hashes.now c.before.before.before.before.before.before.before.args.lanes.now c.before.before.before.before.before.before.before.args.m c.before.before.before.loop.i)
-counted c = rw (c.before.base-at.ensures, sub-zero c.before.before.before.before.before.before.before.args.m) at c.count-near.ensures
+counted : (c : After-count_near-near) → c.count_near-near.result ≡ length (near_to c.args.hashes.now c.args.lanes.now c.args.m c.loop-i.i)
+counted c = rw (c.base_at.ensures, sub-zero c.args.m) at c.count_near-near.ensures
 
 -- and are 12,000 at most
-most : (c : tie.After-count-near invariant-loop decreases-loop) → c.count-near.result ≤ 12000
-most c = omega (arith, counted c, near_most c.before.before.before.before.before.before.before.args.lanes.now (base_of (hash_at c.before.before.before.before.before.before.before.args.hashes.now c.before.before.before.loop.i)) 0 c.before.before.before.before.before.before.before.args.m, c.before.before.before.before.before.before.before.requires)
+most : (c : After-count_near-near) → c.count_near-near.result ≤ 12000
+most c = omega (arith, counted c, near_most c.args.lanes.now (base_of (hash_at c.args.hashes.now c.loop-i.i)) 0 c.args.m, (c.requires.fact_1, c.requires.fact_2))
 
 pub offset_bounds-counts-i : goal.offset_bounds-counts-i
-offset_bounds-counts-i c = omega (arith, (c.requires.fact_1, (c.requires.fact_2))
+offset_bounds-counts-i c = omega (arith, (c.requires.fact_1, c.requires.fact_2))
 
 pub bounds-counts-i : goal.bounds-counts-i
-bounds-counts-i c = omega (arith, (c.requires.fact_1, (c.requires.fact_2))
+bounds-counts-i c = omega (arith, (c.requires.fact_1, c.requires.fact_2))
 
 pub overflow_add-total : goal.overflow_add-total
-overflow_add-total c = omega (arith, most c, c.loop-i.invariant, (c.requires.fact_1, (c.requires.fact_2))
+overflow_add-total c = omega (arith, most c, c.loop-i.invariant, (c.requires.fact_1, c.requires.fact_2))
 
 pub overflow_step-i : goal.overflow_step-i
 overflow_step-i c = omega arith
@@ -56,11 +57,11 @@ loop-i-preserved c =
       length-set l.counts l.i c.count_near-near.result ∙ l.invariant.1,
       omega (arith, most c, l.invariant.2),
       omega (arith, counted c, l.invariant.3),
-      counted_more (near_to a.hashes.now a.lanes.now a.m) l.i l.counts c.count_near-near.result (omega (arith, l.invariant.1, (c.requires.fact_1, (c.requires.fact_2))) (counted c) l.invariant.4,
+      counted_more (near_to a.hashes.now a.lanes.now a.m) l.i l.counts c.count_near-near.result (omega (arith, l.invariant.1, (c.requires.fact_1, c.requires.fact_2))) (counted c) l.invariant.4,
     )
 
 pub shape_of-counts : goal.shape_of-counts
-shape_of-counts c = omega (arith, c.loop-i.invariant.1, (c.requires.fact_1, (c.requires.fact_2))
+shape_of-counts c = omega (arith, c.loop-i.invariant.1, (c.requires.fact_1, c.requires.fact_2))
 
 pub returns : goal.returns
 returns c =

@@ -12,7 +12,7 @@ pub loop-j-init : goal.loop-j-init
 loop-j-init c = (omega arith, omega arith, omega arith, omega arith)
 
 pub is_near-requires : goal.is_near-requires
-is_near-requires c = omega arith
+is_near-requires c = record { fact_1 = omega arith; fact_2 = omega arith }
 
 pub overflow_add-n : goal.overflow_add-n
 overflow_add-n c = omega (arith, byte_most c.is_near.result)

@@ -5,14 +5,15 @@ use native.Mathlib.Omega.{arith}
 use Rattle.hash_near.specs.Near.{near_one, near_from}
 use Rattle.hash_near.proofs.Near.{Found, start, step, finished, near_most}
 use Rattle.hash_near.proofs.Over.{over_split, some_left}
+use Rattle.hash_near.proofs.gather.Goals.{In-loop-k}
 use Rattle.hash_near.proofs.gather.Goals as goal
 
 pub loop-k-init : goal.loop-k-init
 loop-k-init c = (omega arith, omega arith, rw sub-zero (start _ _ _))
 
 -- a block is left while some are not found
-more : (c : tie.In-loop invariant-loop decreases-loop) → c.before.loop.from < c.before.before.before.before.args.m
-more c = some_left (near_one c.before.before.before.before.args.lanes.now c.before.before.before.before.args.base) _ _ c.before.loop.invariant.2.count (omega (arith, c.loop-test.true, c.before.before.before.before.requires.1.1.1))
+more : (c : In-loop-k) → c.loop-k.from < c.args.m
+more c = some_left (near_one c.args.lanes.now c.args.base) _ _ c.loop-k.invariant.2.count (omega (arith, c.loop-k-test.true, c.requires.fact_4))
 
 pub end_of-to-requires : goal.end_of-to-requires
 end_of-to-requires c = omega arith
@@ -20,7 +21,7 @@ end_of-to-requires c = omega arith
 pub gather_some-k-requires : goal.gather_some-k-requires
 gather_some-k-requires c =
     let l = c.loop-k in
-    let e = c.end_of-to.ensures in let it = (omega arith, (omega arith, (omega arith, omega (arith, l.invariant.2.long, l.invariant.1, (c.requires.fact_1, (c.requires.fact_2, (c.requires.fact_3, (c.requires.fact_4))))))) in record { fact_1 = it.0; fact_2 = it.1.0; fact_3 = it.1.1.0; fact_4 = it.1.1.1 }
+    let e = c.end_of-to.ensures in record { fact_1 = omega arith; fact_2 = omega arith; fact_3 = omega arith; fact_4 = omega (arith, l.invariant.2.long, l.invariant.1, (c.requires.fact_1, (c.requires.fact_2, (c.requires.fact_3, c.requires.fact_4)))) }
 
 pub loop-k-smaller : goal.loop-k-smaller
 loop-k-smaller c =

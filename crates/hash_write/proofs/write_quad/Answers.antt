@@ -8,20 +8,21 @@ use Rattle.hash_near.proofs.Over.{over_more, some_left, no_length}
 use Rattle.hash_near.specs.Over.{over}
 use Rattle.hash_write.specs.Write.{of_number, by_number}
 use Rattle.hash_write.proofs.Writing.{Writing, start, room, step, ended, from_first}
+use Rattle.hash_write.proofs.write_quad.Goals.{In-loop-q}
 use Rattle.hash_write.proofs.write_quad.Goals as goal
 
 pub loop-q-init : goal.loop-q-init
 loop-q-init c = (omega arith, omega arith, rw (← from_first c.args.places.now c.args.i c.args.catalogue.now (take c.args.k c.args.found.now)) (start _ _ _))
 
 -- a number is left while there is more to write
-more : (c : tie.In-loop invariant-loop decreases-loop) → c.before.loop.n < 81
-more c = some_left _ _ _ c.before.loop.invariant.2.count (omega (arith, c.loop-test.true, c.before.before.before.before.before.before.requires, c.before.loop.invariant.1))
+more : (c : In-loop-q) → c.loop-q.n < 81
+more c = some_left _ _ _ c.loop-q.invariant.2.count (omega (arith, c.loop-q-test.true, (c.requires.fact_1, (c.requires.fact_2, (c.requires.fact_3, (c.requires.fact_4, c.requires.fact_5)))), c.loop-q.invariant.1))
 
 pub write_number-q-requires : goal.write_number-q-requires
 write_number-q-requires c =
     let a = c.args in
     let l = c.loop-q in
-    let f = of_number a.places.now a.i a.catalogue.now (take a.k a.found.now) in let it = (omega arith, (omega arith, room l.invariant.2 (f l.n) (over f (l.n + 1) (81 - (l.n + 1))) (over_more f l.n 81 (more c.before)) (omega (arith, (c.requires.fact_1, (c.requires.fact_2, (c.requires.fact_3, (c.requires.fact_4, (c.requires.fact_5)))))))) in record { fact_1 = it.0; fact_2 = it.1.0; fact_3 = it.1.1 }
+    let f = of_number a.places.now a.i a.catalogue.now (take a.k a.found.now) in record { fact_1 = omega arith; fact_2 = omega arith; fact_3 = room l.invariant.2 (f l.n) (over f (l.n + 1) (81 - (l.n + 1))) (over_more f l.n 81 (more c.before)) (omega (arith, (c.requires.fact_1, (c.requires.fact_2, (c.requires.fact_3, (c.requires.fact_4, c.requires.fact_5)))))) }
 
 pub overflow_add-n : goal.overflow_add-n
 overflow_add-n c = let h = more c.before.before.before.before in omega arith
@@ -42,4 +43,4 @@ pub shape_of-matches : goal.shape_of-matches
 shape_of-matches c = c.loop-q.invariant.2.long
 
 pub returns : goal.returns
-returns c = ended c.loop-q.invariant.2 (no_length _ (omega (arith, c.loop-q.invariant.2.count, c.loop-q-test.false, (c.requires.fact_1, (c.requires.fact_2, (c.requires.fact_3, (c.requires.fact_4, (c.requires.fact_5)))), c.loop-q.invariant.1)))
+returns c = ended c.loop-q.invariant.2 (no_length _ (omega (arith, c.loop-q.invariant.2.count, c.loop-q-test.false, (c.requires.fact_1, (c.requires.fact_2, (c.requires.fact_3, (c.requires.fact_4, c.requires.fact_5)))), c.loop-q.invariant.1)))

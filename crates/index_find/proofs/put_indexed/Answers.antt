@@ -12,7 +12,7 @@ use Rattle.index_find.proofs.put_indexed.Goals.{After-counts-2-1}
 use Rattle.index_find.proofs.put_indexed.Goals as goal
 
 pub count_all-total-requires : goal.count_all-total-requires
-count_all-total-requires c = let a = c.args in let it = (searched a.places.now a.hashes.now a.catalogue.now a.others.now a.table.now c.requires.fact_1 c.requires.fact_2, search rules) in record { fact_1 = it.0; fact_2 = it.1.0; fact_3 = it.1.1 }
+count_all-total-requires c = let a = c.args in record { fact_1 = searched a.places.now a.hashes.now a.catalogue.now a.others.now a.table.now c.requires.fact_1 c.requires.fact_2; fact_2 = search rules; fact_3 = search rules }
 
 -- eight places for each match that was counted
 counted : (c : After-counts-2-1) → length (matches_of c.args.places.now c.args.hashes.now c.args.catalogue.now c.args.others.now) ≡ 8 * c.count_all-total.result

@@ -7,11 +7,13 @@ use Rattle.hash_near.proofs.Near.{start, step, ended, none_more}
 use Rattle.index_near.specs.Near.{one_hits}
 use Rattle.index_near.proofs.Ranges.{after, room}
 use Rattle.index_near.proofs.Keys.{next_three, group_of, group_none, group_between, three_between}
+use mathlib.Core.Path.{ap}
+use mathlib.Core.Bool.{not}
 use Rattle.index_near.proofs.gather_keys_9.Goals as goal
 
 pub returns-then-not-is_within : goal.returns-then-not-is_within
 returns-then-not-is_within c = let a = c.args in
-    none_more a.found.now a.n _ (group_none (λ n. get_or a.keys.now n 0) a.e c.turn.result c.turn.ensures c.requires.fact_4 c.lower-lo.ensures c.requires.fact_1 (sym c.is_within.ensures ∙ not-true _ c.if-not-is_within.true))
+    none_more a.found.now a.n _ (group_none (λ n. get_or a.keys.now n 0) a.e c.turn.result c.turn.ensures c.requires.fact_4 c.lower-lo.ensures c.requires.fact_1 (sym c.is_within.ensures ∙ not-true _ (ap not c.if-not-is_within.true)))
 
 pub lower-hi-requires : goal.lower-hi-requires
 lower-hi-requires c = record { fact_1 = c.requires.fact_1; fact_2 = after c.lower-lo.ensures (group_of c.turn.result + 4294967295) (omega arith) }

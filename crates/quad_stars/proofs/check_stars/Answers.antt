@@ -2,6 +2,8 @@
 use borrow.Author.Tests.{lt-ltb, le-ltb, eq-eqb, ne_eqb, not-true, not-false}
 use Rattle.quad_stars.specs.Stars.{stars_answer}
 use borrow.Author.Rules.{rules}
+use mathlib.Core.Path.{ap}
+use mathlib.Core.Bool.{not}
 use Rattle.quad_stars.proofs.check_stars.Goals as goal
 
 pub returns-then-xs-gt-MOST_STARS : goal.returns-then-xs-gt-MOST_STARS
@@ -24,7 +26,7 @@ returns-then-not-all_positions c =
       le-ltb _ _ c.if-ys-gt-MOST_STARS.false,
       eq-eqb _ _ c.if-xs-ys.false,
       ← c.all_positions.ensures,
-      not-true c.all_positions.result c.if-not-all_positions.true,
+      not-true c.all_positions.result (ap not c.if-not-all_positions.true),
     )
 
 pub returns-then-not-all_positions-2 : goal.returns-then-not-all_positions-2
@@ -35,9 +37,9 @@ returns-then-not-all_positions-2 c =
       le-ltb _ _ c.if-ys-gt-MOST_STARS.false,
       eq-eqb _ _ c.if-xs-ys.false,
       ← c.all_positions.ensures,
-      not-false c.all_positions.result c.if-not-all_positions.false,
+      not-false c.all_positions.result (ap not c.if-not-all_positions.false),
       ← c.all_positions-2.ensures,
-      not-true c.all_positions-2.result c.if-not-all_positions-2.true,
+      not-true c.all_positions-2.result (ap not c.if-not-all_positions-2.true),
     )
 
 pub returns : goal.returns
@@ -48,7 +50,7 @@ returns c =
       le-ltb _ _ c.if-ys-gt-MOST_STARS.false,
       eq-eqb _ _ c.if-xs-ys.false,
       ← c.all_positions.ensures,
-      not-false c.all_positions.result c.if-not-all_positions.false,
+      not-false c.all_positions.result (ap not c.if-not-all_positions.false),
       ← c.all_positions-2.ensures,
-      not-false c.all_positions-2.result c.if-not-all_positions-2.false,
+      not-false c.all_positions-2.result (ap not c.if-not-all_positions-2.false),
     )

@@ -1,11 +1,10 @@
 -- `root::root_bits` meets its contract. Assumes nothing.
 use borrow.Author.Rules.{rules}
 use mathlib.Core.Path.{sym, subst}
-use mathlib.Core.Logic.{⊎_elim}
 use Prim.Native.Nat.{ℕ}
 use native.Mathlib.Omega.{arith}
 use Rattle.root.proofs.Halves.{Evened, even, uneven, q_high, rooted}
-use Rattle.root.proofs.root_bits.Goals.{Joined-e-eq0}
+use Rattle.root.proofs.root_bits.Goals.{Joined-e-eq0, then-e-eq0, else-e-eq0}
 use Rattle.root.proofs.root_bits.Goals as goal
 
 -- where the two arms meet
@@ -14,7 +13,10 @@ evened c =
     let s = c.scaled-s.ensures in
     let m = c.scaled-s.result.m in
     let e = c.scaled-s.result.e in
-    ⊎_elim (λ w. subst (λ (k : ℕ). Evened m e k) (sym w.1) (even s w.0.taken)) (λ w. subst (λ (k : ℕ). Evened m e k) (sym w.1) (uneven s w.0.left)) c.if-e-eq0.branch
+    elim c.if-e-eq0.branch [
+      then-e-eq0 w ↦ subst (λ (k : ℕ). Evened m e k) (sym w.n-is) (even s w.if-e-eq0.true)
+    | else-e-eq0 w ↦ subst (λ (k : ℕ). Evened m e k) (sym w.n-is) (uneven s w.if-e-eq0.false)
+    ]
 
 pub overflow_add-m : goal.overflow_add-m
 overflow_add-m c = omega (arith, c.scaled-s.ensures.high)

@@ -20,4 +20,4 @@ pub fit_into-requires : goal.fit_into-requires
 fit_into-requires c = record { py_len_1 = c.requires.py_len_1; py_len_2 = c.requires.py_len_2; py_len_3 = c.requires.py_len_3; py_len_4 = c.requires.py_len_4; py_len_5 = c.requires.py_len_5; n_bound_1 = c.requires.n_bound_1; n_bound_2 = length-take-le _ _ c.requires.n_bound_1; n_bound_3 = length-take-le _ _ c.requires.n_bound_1; n_bound_4 = c.requires.n_bound_2; n_bound_5 = c.requires.n_bound_3 }
 
 pub returns : goal.returns
-returns c = let it = (c.fit_into.ensures.answer, (c.fit_into.ensures.a, (c.fit_into.ensures.b)) in record { answer = it.0; a = it.1.0; b = it.1.1 }
+returns c = record { answer = c.fit_into.ensures.answer; a = c.fit_into.ensures.a; b = c.fit_into.ensures.b }

@@ -33,7 +33,7 @@ pub copy_row-requires-in-Fitted : goal.copy_row-requires-in-Fitted
 copy_row-requires-in-Fitted c = omega (arith, length-take-le c.args.n c.args.b.now c.requires.n_bound_5, c.fit_terms.auto.a ∙ c.requires.n_bound_2, c.fit_terms.auto.b ∙ c.requires.n_bound_3)
 
 pub returns-in-Refused : goal.returns-in-Refused
-returns-in-Refused c = let it = (sym c.in-Refused.is ∙ c.fit_terms.ensures.answer, search rules) in record { answer = it.0; a = it.1.0; b = it.1.1 }
+returns-in-Refused c = record { answer = sym c.in-Refused.is ∙ c.fit_terms.ensures.answer; a = search rules; b = search rules }
 
 pub returns-in-Fitted : goal.returns-in-Fitted
 returns-in-Fitted c = let p = c.fit_terms in let g = c.args in

@@ -17,7 +17,7 @@ fit_checked-requires c = let g = c.args in let f = field (rows g.px.now g.py.now
     (k.py_long, (k.xi_long, (k.eta_long, (k.snr_long, (k.few, (rw c.term_count-n.ensures (few_terms g.order o.most), (rw c.term_count-n.ensures o.room_a, rw c.term_count-n.ensures o.room_b))))))) in record { py_len_1 = it.0; py_len_2 = it.1.0; py_len_3 = it.1.1.0; py_len_4 = it.1.1.1.0; py_len_5 = it.1.1.1.1.0; n_bound_1 = it.1.1.1.1.1.0; n_bound_2 = it.1.1.1.1.1.1.0; n_bound_3 = it.1.1.1.1.1.1.1 }
 
 pub returns-in-Refused : goal.returns-in-Refused
-returns-in-Refused c = let it = (rw (← c.check_call.ensures, c.in-Refused.is), search rules) in record { answer = it.0; a = it.1.0; b = it.1.1 }
+returns-in-Refused c = record { answer = rw (← c.check_call.ensures, c.in-Refused.is); a = search rules; b = search rules }
 
 pub returns-in-Done : goal.returns-in-Done
 returns-in-Done c = let p = c.fit_checked in let t = c.term_count-n.ensures in record { answer = rw (← c.check_call.ensures, c.in-Done.is) (rw t at p.ensures.answer); a = rw t at p.ensures.a; b = rw t at p.ensures.b }

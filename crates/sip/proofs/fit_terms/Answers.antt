@@ -65,4 +65,4 @@ pub fit_lent-requires : goal.fit_lent-requires
 fit_lent-requires c = let h = c.requires.py_len_5 in let n = c.requires.n_bound_1 in record { py_len_1 = c.requires.py_len_1; py_len_2 = c.requires.py_len_2; py_len_3 = c.requires.py_len_3; py_len_4 = c.requires.py_len_4; py_len_5 = h; roots_len_1 = length-take-le _ _ h; roots_len_2 = take_replicate (length c.args.px.now) 100 1 h; roots_len_3 = length-take-le _ _ h; n_bound_1 = n; n_bound_2 = c.requires.n_bound_2; n_bound_3 = c.requires.n_bound_3; up_len_1 = length-take-le _ _ (in-powers h); up_len_2 = length-take-le _ _ (in-powers h); up_len_3 = length-take-le _ _ (in_lines h n) }
 
 pub returns : goal.returns
-returns c = let it = (c.fit_lent.ensures.answer, (c.fit_lent.ensures.a, (c.fit_lent.ensures.b)) in record { answer = it.0; a = it.1.0; b = it.1.1 }
+returns c = record { answer = c.fit_lent.ensures.answer; a = c.fit_lent.ensures.a; b = c.fit_lent.ensures.b }

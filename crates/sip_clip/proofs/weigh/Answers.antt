@@ -8,6 +8,10 @@ use mathlib.Core.Path.{◌≡◌, ◌∙◌}
 use Prim.Native.Nat.{◌≤◌, ◌-◌}
 use Rattle.sip_clip.proofs.weigh.Goals as goal
 
+pub loop-k-init : goal.loop-k-init
+unfolding weighed_to
+loop-k-init c = search rules
+
 pub loop-k-preserved : goal.loop-k-preserved
 unfolding weighed_to
 loop-k-preserved c = let l = c.loop-k in (c.plus_if-sum.ensures ∙ rw (add-one l.k, l.invariant.0), omega arith, search rules)

@@ -9,6 +9,10 @@ use mathlib.Core.Path.{◌≡◌, ◌∙◌}
 use Prim.Native.Nat.{◌≤◌, ◌-◌}
 use Rattle.sip_rms.proofs.sum_linear.Goals as goal
 
+pub loop-k-init : goal.loop-k-init
+unfolding linear_to
+loop-k-init c = search rules
+
 pub loop-k-preserved : goal.loop-k-preserved
 unfolding linear_to
 loop-k-preserved c = let l = c.loop-k in (c.with_offset-sum.ensures ∙ rw (add-one l.k, c.offset_at.ensures, l.invariant.0), omega arith, search rules)

@@ -6,6 +6,10 @@ use mathlib.Core.Path.{◌≡◌}
 use Prim.Native.Nat.{◌≤◌, ◌+◌, ◌-◌, ◌*◌, suc}
 use Rattle.sip_terms.proofs.term_count.Goals as goal
 
+pub loop-total-init : goal.loop-total-init
+unfolding count_to
+loop-total-init c = search rules
+
 pub loop-total-preserved : goal.loop-total-preserved
 unfolding count_to
 loop-total-preserved c = let l = c.loop-total in let e : l.total + 1 - 2 ≡ suc (l.total - 2) = omega arith in (rw (e, l.invariant.0) (omega arith), search rules, search rules, search rules, search rules)

@@ -9,10 +9,12 @@ use native.Mathlib.Omega.{arith}
 use mathlib.Core.Path.{◌≡◌, ◌∙◌, refl, sym}
 use Prim.Native.Nat.{◌+◌, ◌-◌, ◌*◌}
 use borrow.Author.Rules.{rules}
+use mathlib.Core.Path.{ap}
+use mathlib.Core.Bool.{not}
 use Rattle.sip_values.proofs.add_term.Goals as goal
 
 pub returns-then-not-is_kept : goal.returns-then-not-is_kept
-returns-then-not-is_kept c = let a = c.args in term_skipped a.c a.t (cells a.up.now (length a.s.now)) (cells a.vp.now (length a.s.now)) a.s.now (sym c.is_kept.ensures ∙ not-true c.is_kept.result c.if-not-is_kept.true)
+returns-then-not-is_kept c = let a = c.args in term_skipped a.c a.t (cells a.up.now (length a.s.now)) (cells a.vp.now (length a.s.now)) a.s.now (sym c.is_kept.ensures ∙ not-true c.is_kept.result (ap not c.if-not-is_kept.true))
 
 pub overflow_mul-x : goal.overflow_mul-x
 overflow_mul-x c = let a = c.args in omega (arith, in_row 6 (length a.s.now) a.t.p (omega arith))
@@ -47,4 +49,4 @@ add_products-requires c = let a = c.args in let w = length a.s.now in
     )
 
 pub returns : goal.returns
-returns c = let a = c.args in let w = length a.s.now in let p = c.add_products in term_added_lem a.c a.t a.up.now a.vp.now a.s.now p.new.s w (a.t.p * w + w - a.t.p * w) (a.t.q * w + w - a.t.q * w) (sym c.is_kept.ensures ∙ not-false c.is_kept.result c.if-not-is_kept.false) refl (omega arith) (omega arith) p.ensures
+returns c = let a = c.args in let w = length a.s.now in let p = c.add_products in term_added_lem a.c a.t a.up.now a.vp.now a.s.now p.new.s w (a.t.p * w + w - a.t.p * w) (a.t.q * w + w - a.t.q * w) (sym c.is_kept.ensures ∙ not-false c.is_kept.result (ap not c.if-not-is_kept.false)) refl (omega arith) (omega arith) p.ensures

@@ -17,7 +17,7 @@ unfolding term_at
 loop-i-init c = let a = c.args in let w = length a.s.now in (values_none a.cs.now (cells a.up.now w) (cells a.vp.now w) w a.s.now c.requires.s_value, c.first-t.ensures, search rules, search rules, search rules, search rules)
 
 pub add_term-requires : goal.add_term-requires
-add_term-requires c = let l = c.loop-i in let g = low_term l.t l.i l.invariant.1 (omega arith) in search rules
+add_term-requires c = let l = c.loop-i in let g = low_term l.t l.i l.invariant.1 (omega arith) in record { p_bound = search rules; up_len_1 = search rules; up_len_2 = search rules }
 
 pub next-t-requires : goal.next-t-requires
 next-t-requires c = let l = c.loop-i in omega (arith, low_term l.t l.i l.invariant.1 (omega arith))

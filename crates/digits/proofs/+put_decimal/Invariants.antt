@@ -1,0 +1,5 @@
+-- `digits::put_decimal` calls itself: the number is its measure.
+use Rattle.digits.proofs.+put_decimal.Given as goal
+
+abbrev pub decreases-put_decimal : goal.decreases-put_decimal
+decreases-put_decimal l = l.n
