@@ -69,14 +69,13 @@ pub fn finish<'a>(w: Writer<'a>) -> usize
     w.at
 }
 
-// Writes a whole record through a writer, and says how long it is.
+// Writes a whole record, and says how long it is.
 pub fn write_lines(buf: &mut [u8], start: Head, a: Axis, b: Axis, fit: Sip) -> usize
     requires { (a.terms ≤ 18) × (b.terms ≤ 18) × Room buf.old 0 (parts_text start a b fit) }
     ensures { Put buf.old 0 (parts_text start a b fit) result buf.new }
 {
-    let w = head(new(buf), start);
-    let w = axis(w, a);
-    let w = axis(w, b);
-    let w = errors(w, fit);
-    finish(w)
+    let at = record_lines::put_head(buf, 0, start);
+    let at = record_lines::put_axis(buf, at, a);
+    let at = record_lines::put_axis(buf, at, b);
+    record_lines::put_errors(buf, at, fit)
 }

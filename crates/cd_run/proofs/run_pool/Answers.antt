@@ -49,7 +49,6 @@ returns-else-on-lt-LEAST_ROWS c =
     let r = rows a.px.now a.py.now a.xi.now a.eta.now in
     let p : 3 ≤ length a.pool.now = omega (arith, c.if-pool-lt-LEAST_ROWS.false) in
     let three : 3 ≤ c.search-held.result.on = omega (arith, c.if-on-lt-LEAST_ROWS.false) in
-    let e = ap model_of c.in let it = -Plate.is in
+    let e = ap model_of c.in-Plate.is in
     let on = held_on r a.limit a.pool.now a.trials c.search-held.result (held c.before.before.before.before.before.before.before.before) p _ e in
-    let marked = c.mark_near.ensures ∙ ap (λ l. written (near_marks r l c.in-Plate.m) a.mask.now) c.of-reach.ensures.0 in
-    ended _ _ _ _ _ _ _ (three_held r a.limit a.pool.now a.trials c.search-held.result (held c.before.before.before.before.before.before.before.before) p _ e three) (ap Fitted on) marked in record { answer = it.0; mask = it.1 }
+    let marked = c.mark_near.ensures ∙ ap (λ l. written (near_marks r l c.in-Plate.m) a.mask.now) c.of-reach.ensures.0 in let it = ended _ _ _ _ _ _ _ (three_held r a.limit a.pool.now a.trials c.search-held.result (held c.before.before.before.before.before.before.before.before) p _ e three) (ap Fitted on) marked in record { answer = it.0; mask = it.1 }

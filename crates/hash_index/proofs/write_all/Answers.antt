@@ -11,13 +11,13 @@ use Rattle.hash_index.specs.Steps.{near_matches}
 use Rattle.hash_index.proofs.write_all.Goals as goal
 
 pub loop-i-init : goal.loop-i-init
-loop-i-init c = (omega arith, omega (arith, (c.requires.fact_1, (c.requires.fact_2, (c.requires.fact_3, (c.requires.fact_4, c.requires.fact_5))))), rw sub-zero (start _ _ _))
+loop-i-init c = (omega arith, omega (arith, c.requires), rw sub-zero (start _ _ _))
 
 pub offset_bounds-counts-i : goal.offset_bounds-counts-i
 offset_bounds-counts-i c = omega (arith, c.requires.fact_1)
 
 pub bounds-counts-i : goal.bounds-counts-i
-bounds-counts-i c = omega (arith, (c.requires.fact_1, (c.requires.fact_2, (c.requires.fact_3, (c.requires.fact_4, c.requires.fact_5)))))
+bounds-counts-i c = omega (arith, c.requires)
 
 pub overflow_cast-counts : goal.overflow_cast-counts
 overflow_cast-counts c = omega (arith, c.shared_slice_known-in-loop-i-1.given c.loop-i.i)
@@ -46,7 +46,7 @@ loop-i-preserved c =
     )
 
 pub shape_of-found : goal.shape_of-found
-shape_of-found c = omega (arith, c.loop-i.invariant.1, (c.requires.fact_1, (c.requires.fact_2, (c.requires.fact_3, (c.requires.fact_4, c.requires.fact_5)))))
+shape_of-found c = omega (arith, c.loop-i.invariant.1, c.requires)
 
 pub shape_of-matches : goal.shape_of-matches
 shape_of-matches c = c.loop-i.invariant.2.long

@@ -11,7 +11,7 @@ use Rattle.hash_index.proofs.write_image.Goals.{After-gather}
 use Rattle.hash_index.proofs.write_image.Goals as goal
 
 pub gather-requires : goal.gather-requires
-gather-requires c = record { fact_1 = omega (arith, (c.requires.fact_1, (c.requires.fact_2, (c.requires.fact_3, c.requires.fact_4)))); fact_2 = omega (arith, (c.requires.fact_1, (c.requires.fact_2, (c.requires.fact_3, c.requires.fact_4)))); fact_3 = omega (arith, (c.requires.fact_1, (c.requires.fact_2, (c.requires.fact_3, c.requires.fact_4)))); fact_4 = rw c.base_at.ensures c.requires.fact_2 }
+gather-requires c = record { fact_1 = omega (arith, c.requires); fact_2 = omega (arith, c.requires); fact_3 = omega (arith, c.requires); fact_4 = rw c.base_at.ensures c.requires.fact_2 }
 
 -- the near ones are gathered
 gathered : (c : After-gather) → take c.args.near c.gather.new.found ≡ near_to c.args.hashes.now c.args.lanes.now c.args.m c.args.i

@@ -21,11 +21,11 @@ end_of-to-requires c = omega arith
 pub gather_some-k-requires : goal.gather_some-k-requires
 gather_some-k-requires c =
     let l = c.loop-k in
-    let e = c.end_of-to.ensures in record { fact_1 = omega arith; fact_2 = omega arith; fact_3 = omega arith; fact_4 = omega (arith, l.invariant.2.long, l.invariant.1, (c.requires.fact_1, (c.requires.fact_2, (c.requires.fact_3, c.requires.fact_4)))) }
+    let e = c.end_of-to.ensures in record { fact_1 = omega arith; fact_2 = omega arith; fact_3 = omega arith; fact_4 = omega (arith, l.invariant.2.long, l.invariant.1, c.requires) }
 
 pub loop-k-smaller : goal.loop-k-smaller
 loop-k-smaller c =
-    let h = more c.before.before.before.before.before in
+    let h = more (goal.at.loop-k-smaller c).In-loop-k in
     let e = c.end_of-to.ensures in
     omega arith
 

@@ -11,7 +11,7 @@ pub loop-j-init : goal.loop-j-init
 loop-j-init c = (omega arith, omega arith, omega arith, start _ _ _)
 
 pub gather_one-k-requires : goal.gather_one-k-requires
-gather_one-k-requires c = let l = c.loop-j in record { fact_1 = omega arith; fact_2 = omega arith; fact_3 = omega (arith, l.invariant.3.long, l.invariant.2, (c.requires.fact_1, (c.requires.fact_2, (c.requires.fact_3, c.requires.fact_4)))) }
+gather_one-k-requires c = let l = c.loop-j in record { fact_1 = omega arith; fact_2 = omega arith; fact_3 = omega (arith, l.invariant.3.long, l.invariant.2, c.requires) }
 
 pub loop-j-preserved : goal.loop-j-preserved
 loop-j-preserved c =

@@ -12,13 +12,13 @@ returns-then-x-n c = let a = c.args in no_part a.matches.now a.p _ (passed a.pla
 pub write_match-requires : goal.write_match-requires
 write_match-requires c =
     let a = c.args in
-    let e = ap length (picked a.places.now a.i a.catalogue.now a.n a.x c.if-x-n.false) in record { fact_1 = omega arith; fact_2 = omega arith; fact_3 = omega (arith, (c.requires.fact_1, c.requires.fact_2)) }
+    let e = ap length (picked a.places.now a.i a.catalogue.now a.n a.x c.if-x-n.false) in record { fact_1 = omega arith; fact_2 = omega arith; fact_3 = omega (arith, c.requires) }
 
 pub overflow_add-result : goal.overflow_add-result
 overflow_add-result c =
     let a = c.args in
     let e = ap length (picked a.places.now a.i a.catalogue.now a.n a.x c.if-x-n.false) in
-    omega (arith, (c.requires.fact_1, c.requires.fact_2))
+    omega (arith, c.requires)
 
 pub returns : goal.returns
 returns c =

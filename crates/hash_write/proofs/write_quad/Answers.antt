@@ -16,19 +16,19 @@ loop-q-init c = (omega arith, omega arith, rw (← from_first c.args.places.now 
 
 -- a number is left while there is more to write
 more : (c : In-loop-q) → c.loop-q.n < 81
-more c = some_left _ _ _ c.loop-q.invariant.2.count (omega (arith, c.loop-q-test.true, (c.requires.fact_1, (c.requires.fact_2, (c.requires.fact_3, (c.requires.fact_4, c.requires.fact_5)))), c.loop-q.invariant.1))
+more c = some_left _ _ _ c.loop-q.invariant.2.count (omega (arith, c.loop-q-test.true, c.requires, c.loop-q.invariant.1))
 
 pub write_number-q-requires : goal.write_number-q-requires
 write_number-q-requires c =
     let a = c.args in
     let l = c.loop-q in
-    let f = of_number a.places.now a.i a.catalogue.now (take a.k a.found.now) in record { fact_1 = omega arith; fact_2 = omega arith; fact_3 = room l.invariant.2 (f l.n) (over f (l.n + 1) (81 - (l.n + 1))) (over_more f l.n 81 (more c.before)) (omega (arith, (c.requires.fact_1, (c.requires.fact_2, (c.requires.fact_3, (c.requires.fact_4, c.requires.fact_5)))))) }
+    let f = of_number a.places.now a.i a.catalogue.now (take a.k a.found.now) in record { fact_1 = omega arith; fact_2 = omega arith; fact_3 = room l.invariant.2 (f l.n) (over f (l.n + 1) (81 - (l.n + 1))) (over_more f l.n 81 (more (goal.at.write_number-q-requires c).In-loop-q)) (omega (arith, c.requires)) }
 
 pub overflow_add-n : goal.overflow_add-n
-overflow_add-n c = let h = more c.before.before.before.before in omega arith
+overflow_add-n c = let h = more (goal.at.overflow_add-n c).In-loop-q in omega arith
 
 pub loop-q-smaller : goal.loop-q-smaller
-loop-q-smaller c = let h = more c.before.before.before.before in omega arith
+loop-q-smaller c = let h = more (goal.at.loop-q-smaller c).In-loop-q in omega arith
 
 pub loop-q-preserved : goal.loop-q-preserved
 loop-q-preserved c =
@@ -36,11 +36,11 @@ loop-q-preserved c =
     let l = c.loop-q in
     let f = of_number a.places.now a.i a.catalogue.now (take a.k a.found.now) in
     let v = c.write_number-q in
-    let h = more c.before.before.before.before in
+    let h = more (goal.at.loop-q-preserved c).In-loop-q in
     (omega arith, l.invariant.1, step l.invariant.2 (f l.n) (over f (l.n + 1) (81 - (l.n + 1))) (over_more f l.n 81 h) v.result v.new.matches v.auto.matches v.ensures)
 
 pub shape_of-matches : goal.shape_of-matches
 shape_of-matches c = c.loop-q.invariant.2.long
 
 pub returns : goal.returns
-returns c = ended c.loop-q.invariant.2 (no_length _ (omega (arith, c.loop-q.invariant.2.count, c.loop-q-test.false, (c.requires.fact_1, (c.requires.fact_2, (c.requires.fact_3, (c.requires.fact_4, c.requires.fact_5)))), c.loop-q.invariant.1)))
+returns c = ended c.loop-q.invariant.2 (no_length _ (omega (arith, c.loop-q.invariant.2.count, c.loop-q-test.false, c.requires, c.loop-q.invariant.1)))

@@ -14,10 +14,10 @@ pub loop-t-init : goal.loop-t-init
 loop-t-init c = (omega arith, omega arith, start _ _ _)
 
 pub overflow_add-j : goal.overflow_add-j
-overflow_add-j c = omega (arith, (c.requires.fact_1, (c.requires.fact_2, c.requires.fact_3)), c.ranges)
+overflow_add-j c = omega (arith, c.requires, c.ranges)
 
 pub bounds-kept-from : goal.bounds-kept-from
-bounds-kept-from c = omega (arith, (c.requires.fact_1, (c.requires.fact_2, c.requires.fact_3)))
+bounds-kept-from c = omega (arith, c.requires)
 
 pub overflow_cast-j : goal.overflow_cast-j
 overflow_cast-j c = omega (arith, c.shared_slice_known-in-loop-t-1.given (c.args.from + c.loop-t.t))

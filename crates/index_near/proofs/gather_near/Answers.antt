@@ -15,7 +15,11 @@ overflow_sub-key c = let a = c.args in
 
 pub gather_three-requires : goal.gather_three-requires
 gather_three-requires c = let a = c.args in
-    let e : inner (quad_key a.hashes.now a.i) ≡ true = rw c.key_at-key.ensures at (sym c.is_inner.ensures ∙ c.if-is_inner.true) in let it = (c.requires.fact_1, rw c.key_at-key.ensures ((quad_room a.hashes.now a.i e).1, rw (near_inner a.table.now a.m a.hashes.now a.i e) at c.requires.fact_3)) in record { fact_1 = it.0; fact_2 = it.1.0; fact_3 = it.1.1 }
+    let e : inner (quad_key a.hashes.now a.i) ≡ true = rw c.key_at-key.ensures at (sym c.is_inner.ensures ∙ c.if-is_inner.true) in record {
+      fact_1 = c.requires.fact_1;
+      fact_2 = rw c.key_at-key.ensures (quad_room a.hashes.now a.i e).1;
+      fact_3 = rw c.key_at-key.ensures (rw (near_inner a.table.now a.m a.hashes.now a.i e) at c.requires.fact_3);
+    }
 
 pub returns-then-is_inner : goal.returns-then-is_inner
 returns-then-is_inner c = let a = c.args in

@@ -6,11 +6,9 @@ use Rattle.matching_face.proofs.extract_pairs.Goals as goal
 
 pub returns-in-Refused : goal.returns-in-Refused
 returns-in-Refused c =
-    let why = c.in let it = -Refused.is in
-    rw (← c.extract_pairs.ensures.answer, why) (c.number.ensures, (rw why at c.extract_pairs.ensures.px, (rw why at c.extract_pairs.ensures.py, (rw why at c.extract_pairs.ensures.ra, (rw why at c.extract_pairs.ensures.dec, (rw why at c.extract_pairs.ensures.votes, (rw why at c.extract_pairs.ensures.snr, refl))))))) in record { number = it.0; px = it.1.0; py = it.1.1.0; ra = it.1.1.1.0; dec = it.1.1.1.1.0; votes = it.1.1.1.1.1.0; snr = it.1.1.1.1.1.1.0; pairs = it.1.1.1.1.1.1.1 }
+    let why = c.in-Refused.is in rw (← c.extract_pairs.ensures.answer, why) (record { number = c.number.ensures; px = rw why at c.extract_pairs.ensures.px; py = rw why at c.extract_pairs.ensures.py; ra = rw why at c.extract_pairs.ensures.ra; dec = rw why at c.extract_pairs.ensures.dec; votes = rw why at c.extract_pairs.ensures.votes; snr = rw why at c.extract_pairs.ensures.snr; pairs = refl })
 
 pub returns-in-Found : goal.returns-in-Found
 returns-in-Found c =
-    let count = c.in let it = -Found.is in
-    let all = pairs_counted _ _ _ (sym c.extract_pairs.ensures.answer ∙ count) in
-    rw (← c.extract_pairs.ensures.answer, count) (refl, (rw count at c.extract_pairs.ensures.px, (rw count at c.extract_pairs.ensures.py, (rw count at c.extract_pairs.ensures.ra, (rw count at c.extract_pairs.ensures.dec, (rw count at c.extract_pairs.ensures.votes, (rw count at c.extract_pairs.ensures.snr, all))))))) in record { number = it.0; px = it.1.0; py = it.1.1.0; ra = it.1.1.1.0; dec = it.1.1.1.1.0; votes = it.1.1.1.1.1.0; snr = it.1.1.1.1.1.1.0; pairs = it.1.1.1.1.1.1.1 }
+    let count = c.in-Found.is in
+    let all = pairs_counted _ _ _ (sym c.extract_pairs.ensures.answer ∙ count) in rw (← c.extract_pairs.ensures.answer, count) (record { number = refl; px = rw count at c.extract_pairs.ensures.px; py = rw count at c.extract_pairs.ensures.py; ra = rw count at c.extract_pairs.ensures.ra; dec = rw count at c.extract_pairs.ensures.dec; votes = rw count at c.extract_pairs.ensures.votes; snr = rw count at c.extract_pairs.ensures.snr; pairs = all })

@@ -19,7 +19,7 @@ overflow_add-m c =
     let a = c.args in
     let l = c.loop-i in
     let q = at_most_4 (quad_of a.xs.now a.ys.now a.least (get_or a.store.now l.i 0)) in
-    omega (arith, c.type_size.ensures, l.invariant, c.requires.few)
+    omega (arith, c.size_of-m.ensures, l.invariant, c.requires.few)
 
 pub loop-i-preserved : goal.loop-i-preserved
 loop-i-preserved c =
@@ -27,7 +27,7 @@ loop-i-preserved c =
     let l = c.loop-i in
     let q = at_most_4 (quad_of a.xs.now a.ys.now a.least (get_or a.store.now l.i 0)) in
     let m = count_more a.xs.now a.ys.now a.least a.store.now a.n l.i c.loop-i-test.true c.requires.fits in
-    (omega arith, omega (arith, c.type_size.ensures, l.invariant), omega (arith, c.type_size.ensures, l.invariant))
+    (omega arith, omega (arith, c.size_of-m.ensures, l.invariant), omega (arith, c.size_of-m.ensures, l.invariant))
 
 pub returns : goal.returns
 returns c =

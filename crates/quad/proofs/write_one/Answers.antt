@@ -11,7 +11,7 @@ use Rattle.quad.proofs.write_one.Goals as goal
 
 -- a kept quad has room for four in both lists
 room : (c : In-Kept) → (c.args.p + 4 ≤ length c.args.places.now) × (c.args.p + 4 ≤ length c.args.hashes.now)
-room c = rw c.in-Kept.is at (c.requires.fact_1, c.requires.fact_2)
+room c = (rw c.in-Kept.is at c.requires.fact_1, rw c.in-Kept.is at c.requires.fact_2)
 
 pub bounds-places-p : goal.bounds-places-p
 bounds-places-p c = let r = room c in omega arith

@@ -5,28 +5,8 @@ use Rattle.quad_face.proofs.neighbor_quads.Goals as goal
 
 pub returns-in-Refused : goal.returns-in-Refused
 returns-in-Refused c =
-    let why = c.in let it = -Refused.is in
-    rw (← c.neighbor_quads.ensures.answer, why) (
-      c.number.ensures,
-      (
-        rw why at c.neighbor_quads.ensures.places,
-        (
-          rw why at c.neighbor_quads.ensures.hashes,
-          refl,
-        ),
-      ),
-    ) in record { number = it.0; places = it.1.0; hashes = it.1.1.0; quads = it.1.1.1 }
+    let why = c.in-Refused.is in rw (← c.neighbor_quads.ensures.answer, why) (record { number = c.number.ensures; places = rw why at c.neighbor_quads.ensures.places; hashes = rw why at c.neighbor_quads.ensures.hashes; quads = refl })
 
 pub returns-in-Found : goal.returns-in-Found
 returns-in-Found c =
-    let count = c.in let it = -Found.is in
-    rw (← c.neighbor_quads.ensures.answer, count) (
-      refl,
-      (
-        rw count at c.neighbor_quads.ensures.places,
-        (
-          rw count at c.neighbor_quads.ensures.hashes,
-          refl,
-        ),
-      ),
-    ) in record { number = it.0; places = it.1.0; hashes = it.1.1.0; quads = it.1.1.1 }
+    let count = c.in-Found.is in rw (← c.neighbor_quads.ensures.answer, count) (record { number = refl; places = rw count at c.neighbor_quads.ensures.places; hashes = rw count at c.neighbor_quads.ensures.hashes; quads = refl })

@@ -6,31 +6,11 @@ use Rattle.quad_face.proofs.put_step.Goals as goal
 
 pub returns-in-Refused-put_four : goal.returns-in-Refused-put_four
 returns-in-Refused-put_four c =
-    let why = c.in let it = -Refused-put_four.is in
-    rw (c.in-Given.is, ← c.put_four.ensures.answer, why) (
-      refl,
-      (
-        refl,
-        (
-          rw (← c.put_four.ensures.answer, why) at c.put_four.ensures.after,
-          refl,
-        ),
-      ),
-    ) in record { answer = it.0; state = it.1.0; places = it.1.1.0; given = it.1.1.1 }
+    let why = c.in-Refused-put_four.is in rw (c.in-Given.is, ← c.put_four.ensures.answer, why) (record { answer = refl; state = refl; places = rw (← c.put_four.ensures.answer, why) at c.put_four.ensures.after; given = refl })
 
 pub returns-in-Done : goal.returns-in-Done
 returns-in-Done c =
-    let told = c.in let it = -Done.is in
-    rw (c.in-Given.is, ← c.put_four.ensures.answer, told) (
-      refl,
-      (
-        rw (le-ltb _ 5 c.requires) at c.put_state.ensures.after,
-        (
-          rw (← c.put_four.ensures.answer, told) at c.put_four.ensures.after,
-          refl,
-        ),
-      ),
-    ) in record { answer = it.0; state = it.1.0; places = it.1.1.0; given = it.1.1.1 }
+    let told = c.in-Done.is in rw (c.in-Given.is, ← c.put_four.ensures.answer, told) (record { answer = refl; state = rw (le-ltb _ 5 c.requires) at c.put_state.ensures.after; places = rw (← c.put_four.ensures.answer, told) at c.put_four.ensures.after; given = refl })
 
 pub returns-in-Ended : goal.returns-in-Ended
 returns-in-Ended c = rw c.in-Ended.is (record { answer = refl; state = refl; places = refl; given = refl })

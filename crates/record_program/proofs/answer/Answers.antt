@@ -49,15 +49,13 @@ never-requires c = not_refused _ _ _ _ _ _ _ refl refl c.read_record.ensures c.i
 
 pub returns-in-Is : goal.returns-in-Is
 returns-in-Is c =
-    let k = shows _ _ _ _ _ _ _ _ _ _ _ refl refl c.read_record.ensures c.in let it = -Is.is c.term_count-n.ensures in
-    let l : length c.args.out.now ≡ 1074 = search rules in
-    at_front _ _ _ _ _ k.text (room_is _ _ l k.short) c.put_shown.ensures in record { text = it.0; count = it.1.0; rest = it.1.1.0; fits = it.1.1.1 }
+    let k = shows _ _ _ _ _ _ _ _ _ _ _ refl refl c.read_record.ensures c.in-Is.is c.term_count-n.ensures in
+    let l : length c.args.out.now ≡ 1074 = search rules in let it = at_front _ _ _ _ _ k.text (room_is _ _ l k.short) c.put_shown.ensures in record { text = it.0; count = it.1.0; rest = it.1.1.0; fits = it.1.1.1 }
 
 pub returns-in-Wrong : goal.returns-in-Wrong
 returns-in-Wrong c =
     let l : length c.args.out.now ≡ 1074 = search rules in
-    let e = wrong_is _ _ _ _ _ _ _ refl refl c.read_record.ensures c.in let it = -Wrong.is in
-    at_front _ _ _ _ _ e (room_is _ _ l (omega (arith, wrong_short c.in-Wrong.line))) c.put_wrong.ensures in record { text = it.0; count = it.1.0; rest = it.1.1.0; fits = it.1.1.1 }
+    let e = wrong_is _ _ _ _ _ _ _ refl refl c.read_record.ensures c.in-Wrong.is in let it = at_front _ _ _ _ _ e (room_is _ _ l (omega (arith, wrong_short c.in-Wrong.line))) c.put_wrong.ensures in record { text = it.0; count = it.1.0; rest = it.1.1.0; fits = it.1.1.1 }
 
 pub returns-in-Refused : goal.returns-in-Refused
 returns-in-Refused c = absurd c.never.ensures

@@ -38,10 +38,4 @@ returns-in-Refused c = record { answer = sym c.in-Refused.is ∙ c.fit_terms.ens
 pub returns-in-Fitted : goal.returns-in-Fitted
 returns-in-Fitted c = let p = c.fit_terms in let g = c.args in
     let f = field (rows g.px.now g.py.now g.xi.now g.eta.now) g.snr.now g.wcs in
-    let d : answer_of p.result ≡ answer.Done = rw c.in let it = -Fitted.is in (
-      sym c.in-Fitted.is ∙ p.ensures.answer,
-      (
-        copied c.copy_row.new.to p.new.a (coefficients_a (rounds_of f g.n)) g.a.now g.n (p.auto.a ∙ c.requires.n_bound_2) c.copy_row.ensures (p.ensures.a d),
-        copied c.copy_row-in-Fitted.new.to p.new.b (coefficients_b (rounds_of f g.n)) g.b.now g.n (p.auto.b ∙ c.requires.n_bound_3) c.copy_row-in-Fitted.ensures (p.ensures.b d),
-      ),
-    ) in record { answer = it.0; a = it.1.0; b = it.1.1 }
+    let d : answer_of p.result ≡ answer.Done = rw c.in-Fitted.is in record { answer = sym c.in-Fitted.is ∙ p.ensures.answer; a = copied c.copy_row.new.to p.new.a (coefficients_a (rounds_of f g.n)) g.a.now g.n (p.auto.a ∙ c.requires.n_bound_2) c.copy_row.ensures (p.ensures.a d); b = copied c.copy_row-in-Fitted.new.to p.new.b (coefficients_b (rounds_of f g.n)) g.b.now g.n (p.auto.b ∙ c.requires.n_bound_3) c.copy_row-in-Fitted.ensures (p.ensures.b d) }

@@ -50,10 +50,4 @@ pub returns-in-Done : goal.returns-in-Done
 returns-in-Done c = let g = c.args in let p = c.fit_rounds in
     let f = field (rows g.px.now g.py.now g.xi.now g.eta.now) g.snr.now g.wcs in
     let t : ended_as p.result p.new.mask p.new.a p.new.b ≡ rounds_of f g.n = rw c.requires.roots_len_2 at p.ensures.ended in
-    let d = c.in let it = -Done.is in (
-      done f (rounds_of f g.n) p.result p.new.mask p.new.a p.new.b t d c.sip_of.result c.linear_rms-linear.result p.new.errors c.linear_rms-linear.ensures (p.ensures.errors d) c.sip_of.ensures,
-      (
-        λ e. done_a f (rounds_of f g.n) p.result p.new.mask p.new.a p.new.b t d,
-        λ e. done_b f (rounds_of f g.n) p.result p.new.mask p.new.a p.new.b t d,
-      ),
-    ) in record { answer = it.0; a = it.1.0; b = it.1.1 }
+    let d = c.in-Done.is in record { answer = done f (rounds_of f g.n) p.result p.new.mask p.new.a p.new.b t d c.sip_of.result c.linear_rms-linear.result p.new.errors c.linear_rms-linear.ensures (p.ensures.errors d) c.sip_of.ensures; a = λ e. done_a f (rounds_of f g.n) p.result p.new.mask p.new.a p.new.b t d; b = λ e. done_b f (rounds_of f g.n) p.result p.new.mask p.new.a p.new.b t d }

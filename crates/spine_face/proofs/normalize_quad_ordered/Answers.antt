@@ -10,14 +10,7 @@ use Rattle.spine_face.proofs.normalize_quad_ordered.Goals as goal
 pub returns-in-Refused : goal.returns-in-Refused
 returns-in-Refused c =
     let a = c.args in
-    let turn = in_turn c.in let it = -Refused.why (quad_room (length a.hash.now) (length a.places.now)) in
-    rw (← c.normalize_quad_ordered.ensures, c.in-Refused.is) (
-      c.number.ensures ∙ ap answer_number (c.in_turn.ensures ∙ ap (in_turn c.in-Refused.why) c.quad_room-room.ensures),
-      (
-        stays turn _,
-        stays turn _,
-      ),
-    ) in record { number = it.0; hash = it.1.0; places = it.1.1 }
+    let turn = in_turn c.in-Refused.why (quad_room (length a.hash.now) (length a.places.now)) in rw (← c.normalize_quad_ordered.ensures, c.in-Refused.is) (record { number = c.number.ensures ∙ ap answer_number (c.in_turn.ensures ∙ ap (in_turn c.in-Refused.why) c.quad_room-room.ensures); hash = stays turn _; places = stays turn _ })
 
 pub returns-in-Hashed : goal.returns-in-Hashed
 returns-in-Hashed c = rw (← c.normalize_quad_ordered.ensures, c.in-Hashed.is) (record { number = c.number-in-Hashed.ensures ∙ ap answer_number c.put_quad.ensures.answer; hash = c.put_quad.ensures.hash; places = c.put_quad.ensures.places })

@@ -9,22 +9,8 @@ returns-then-hash-lt4 c = rw (lt-ltb _ _ c.if-hash-lt4.true) (record { answer = 
 
 pub returns-in-Refused : goal.returns-in-Refused
 returns-in-Refused c =
-    let why = c.in let it = -Refused.is in
-    rw (le-ltb _ _ c.if-hash-lt4.false, ← c.put_four.ensures.answer, why) (
-      refl,
-      (
-        refl,
-        rw (← c.put_four.ensures.answer, why) at c.put_four.ensures.after,
-      ),
-    ) in record { answer = it.0; hash = it.1.0; places = it.1.1 }
+    let why = c.in-Refused.is in rw (le-ltb _ _ c.if-hash-lt4.false, ← c.put_four.ensures.answer, why) (record { answer = refl; hash = refl; places = rw (← c.put_four.ensures.answer, why) at c.put_four.ensures.after })
 
 pub returns-in-Done : goal.returns-in-Done
 returns-in-Done c =
-    let told = c.in let it = -Done.is in
-    rw (le-ltb _ _ c.if-hash-lt4.false, ← c.put_four.ensures.answer, told) (
-      refl,
-      (
-        c.put_hash.ensures,
-        rw (← c.put_four.ensures.answer, told) at c.put_four.ensures.after,
-      ),
-    ) in record { answer = it.0; hash = it.1.0; places = it.1.1 }
+    let told = c.in-Done.is in rw (le-ltb _ _ c.if-hash-lt4.false, ← c.put_four.ensures.answer, told) (record { answer = refl; hash = c.put_hash.ensures; places = rw (← c.put_four.ensures.answer, told) at c.put_four.ensures.after })

@@ -15,7 +15,7 @@ pub loop-init : goal.loop-init
 loop-init c = (search rules, scoring_none _ _ _ _)
 
 pub count_of-requires : goal.count_of-requires
-count_of-requires c = let w = triple_in (length c.args.px.now) c.loop.word c.requires.px_nonzero in let it = (c.requires.py_len_1, (c.requires.py_len_2, (c.requires.py_len_3, rw c.draw_three-t.ensures (w.a_in, (w.b_in, w.c_in))))) in record { py_len_1 = it.0; py_len_2 = it.1.0; py_len_3 = it.1.1.0; a_in_bounds_1 = it.1.1.1.0; a_in_bounds_2 = it.1.1.1.1.0; a_in_bounds_3 = it.1.1.1.1.1 }
+count_of-requires c = let w = triple_in (length c.args.px.now) c.loop.word c.requires.px_nonzero in let d = c.draw_three-t.ensures in record { py_len_1 = c.requires.py_len_1; py_len_2 = c.requires.py_len_2; py_len_3 = c.requires.py_len_3; a_in_bounds_1 = rw d w.a_in; a_in_bounds_2 = rw d w.b_in; a_in_bounds_3 = rw d w.c_in }
 
 pub loop-preserved : goal.loop-preserved
 loop-preserved c =

@@ -1,5 +1,0 @@
-pub mod Texts
-pub mod Held
-pub mod Lent
-pub mod Thin
-pub mod Handed
