@@ -1,4 +1,6 @@
 // The votes of matches: which count, and how many each pair of ids has.
+#![tactic(auto)]
+
 ghost use Rattle.std.specs.Prelude.{◌≡◌, cond, ℕ, ◌+◌, ◌-◌, ◌*◌, ◌<◌, ◌≤◌, pos, length, get_or, replicate};
 ghost use Rattle.std.specs.Int.Signed.{lt_z};
 ghost use Rattle.aggregate_votes.specs.Votes.{same_id, last_of, vote, votes_in, votes_of, ids, missing, votes_at, any_of};

@@ -1,4 +1,6 @@
 // How a call ends: done, or refused by number.
+#![tactic(auto)]
+
 ghost use Rattle.std.specs.Prelude.{◌≡◌};
 ghost use Rattle.answer.specs.Answers.{number_of, answer_number, room_for, before_room, in_turn};
 

@@ -1,4 +1,6 @@
 // The pool of the CD run: the places of the rows that have enough votes.
+#![tactic(auto)]
+
 ghost use Rattle.std.specs.Prelude.{◌≡◌, cond, ◌≤◌, max, length, take};
 ghost use Rattle.cd_pool.specs.Pool.{greatest, is_taken, pool_of};
 

@@ -1,4 +1,4 @@
--- `is_finite` is the library's `finite` on every f64: neither NaN nor an infinity; and `isLimit` is that, and not below zero. Assumes nothing.
+-- `is_finite` is the library's `finite` on every f64: neither NaN nor an infinity; and `is_limit` is that, and not below zero. Assumes nothing.
 use mathlib.Core.Path.{◌≡◌, refl, sym, ap, subst}
 use mathlib.Core.Logic.{◌⊎◌, inl, inr}
 use mathlib.Core.Bool.{Bool, true, false, ◌&&◌, ◌||◌}

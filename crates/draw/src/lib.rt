@@ -1,4 +1,6 @@
 // The fixed draw: the words, and the three places of each trial.
+#![tactic(auto)]
+
 ghost use Rattle.std.specs.Prelude.{◌≡◌, ◌<◌, ◌%◌};
 ghost use Rattle.draw.specs.Draw.{next_word, three_after, triple_of, is_repeated};
 

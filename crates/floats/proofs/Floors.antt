@@ -146,7 +146,7 @@ abbrev held_fraction : Bool → ℕ → ℕ → ℤ
 held_fraction false n d = pos (min (n / d) (2 ^ 31 - 1))
 held_fraction true n d = neg_ℤ (pos (min (ceil_div n d) (2 ^ 31)))
 
--- the floor of x in that range, without a float on the way: `held-is` says that it is `to_signed 31 (floorOf x)`
+-- the floor of x in that range, without a float on the way: `held_is` says that it is `to_signed 31 (floor_of x)`
 unfoldable pub held_floor : Float → ℤ
 held_floor nan = pos 0
 held_floor (inf s) = cond s (neg_ℤ (pos (2 ^ 31))) (pos (2 ^ 31 - 1))

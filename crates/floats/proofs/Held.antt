@@ -1,4 +1,4 @@
--- `heldFloor x` is `to_signed 31 (floorOf x)`: the floor cut by `as i32`. Assumes nothing.
+-- `held_floor x` is `to_signed 31 (floor_of x)`: the floor cut by `as i32`. Assumes nothing.
 use mathlib.Core.Path.{◌≡◌, refl, sym, ap, ◌∙◌}
 use mathlib.Core.Bool.{Bool, true, false, cond}
 use Prim.Native.Nat.{ℕ, zero, suc, ◌+◌, ◌-◌, ◌*◌, ◌/◌, ◌^◌, ◌≤◌, ◌<◌, min}

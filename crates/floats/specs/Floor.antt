@@ -1,5 +1,5 @@
 -- The greatest whole number that is not above a float. Definitions only.
--- Rust's `x.floor() as i32` is `to_signed 31 (floorOf x)`: the library's `to_signed 31` holds a float to the range from -2 ^ 31 to 2 ^ 31 - 1, and gives 0 for NaN.
+-- Rust's `x.floor() as i32` is `to_signed 31 (floor_of x)`: the library's `to_signed 31` holds a float to the range from -2 ^ 31 to 2 ^ 31 - 1, and gives 0 for NaN.
 use Rattle.std.specs.Prelude.{Bool, true, false, ℕ, zero, suc, ◌+◌, ◌-◌, ◌*◌, ◌/◌, ℤ, pos, neg_ℤ, Float}
 use Rattle.std.specs.Float.{nan, inf, fin, binary64}
 use Rattle.std.specs.Float.Ieee.{up, down, of_int}

@@ -1,4 +1,6 @@
 // The float helpers of the solver: magnitude, floor and whole powers, on every f64.
+#![tactic(auto)]
+
 ghost use Rattle.std.specs.Prelude.{◌≡◌, true, false, T, pos};
 ghost use Rattle.std.specs.Float.{fin};
 ghost use Rattle.std.specs.Float.Ieee.{lt, to_signed};

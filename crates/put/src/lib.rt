@@ -1,4 +1,6 @@
 // Bytes put into a lent buffer at a place.
+#![tactic(auto)]
+
 ghost use Rattle.std.specs.Prelude.{[], ◌∷◌};
 ghost use Rattle.put.specs.Put.{Put, Room};
 

@@ -1,4 +1,4 @@
--- No record has more than `mostBytes` bytes, so a caller who lends so many is never refused for room. Assumes nothing.
+-- No record has more than `most_bytes` bytes, so a caller who lends so many is never refused for room. Assumes nothing.
 use mathlib.Core.Path.{◌≡◌, refl}
 use mathlib.Core.Bool.{Bool, true, false, cond, and-eq-true_iff}
 use mathlib.Core.List.{List, [], ◌∷◌}

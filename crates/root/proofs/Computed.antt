@@ -1,4 +1,4 @@
--- `rootUnits` computes the value of a `Rooted` pattern. Assumes nothing.
+-- `root_units` computes the value of a `Rooted` pattern. Assumes nothing.
 use mathlib.Core.Path.{◌≡◌, refl, sym, ap, ◌∙◌, subst}
 use mathlib.Core.Bool.{Bool, true, false, cond}
 use Prim.Native.Nat.{ℕ, zero, suc, ◌+◌, ◌-◌, ◌*◌, ◌/◌, ◌^◌, ◌≤◌, ◌<◌, zero-le}

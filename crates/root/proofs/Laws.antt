@@ -1,4 +1,4 @@
--- Laws of the root: a value has one root (`unique`), which is `rootOf x` (`rootOf-is`, `agree`). Assumes nothing.
+-- Laws of the root: a value has one root (`unique`), which is `root_of x` (`root_of_is`, `agree`). Assumes nothing.
 use mathlib.Core.Path.{◌≡◌, refl, sym, ap, ◌∙◌, subst}
 use mathlib.Core.Bool.{true, false}
 use Prim.Native.Nat.{ℕ, zero, suc, ◌+◌, ◌*◌, ◌/◌, ◌%◌, ◌^◌, ◌≤◌, ◌<◌}
@@ -49,7 +49,7 @@ unique (fin false zero e) r s p q = p ∙ sym q
 unique (fin true (suc m) e) r s p q = p ∙ sym q
 unique (fin false (suc m) e) r s p q = one_positive (fin false (suc m) e) r s p q
 
--- ---- `rootOf x` is the root
+-- ---- `root_of x` is the root
 
 scales : (b : ℕ) → 0 < b → b < 0x7ff0_0000_0000_0000 → (m : ℕ) × (e : ℕ) × Scaled53 b m e
 scales b p h = go (ℕ_discrete (b / 2 ^ 52) 0)

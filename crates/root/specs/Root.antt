@@ -1,4 +1,4 @@
--- The square root of every f64, as IEEE 754 has it, over whole numbers. `IsRoot x r` says which value r is the root of x, and `rootOf x` computes it. Definitions only.
+-- The square root of every f64, as IEEE 754 has it, over whole numbers. `IsRoot x r` says which value r is the root of x, and `root_of x` computes it. Definitions only.
 -- A finite f64 is a whole number of units of 2 ^ -1074, the least f64 above zero. Where x is X units, its exact root in units is the root of X * 2 ^ 1074.
 use Rattle.std.specs.Prelude.{◌≡◌, true, false, cond, ℕ, zero, suc, ◌+◌, ◌-◌, ◌*◌, ◌/◌, ◌^◌, ◌<◌, T, leb, Float}
 use Rattle.std.specs.Float.{nan, inf, fin, binary64}

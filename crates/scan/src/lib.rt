@@ -1,4 +1,6 @@
 // Text read from a slice: fixed bytes and lines, at a place.
+#![tactic(auto)]
+
 ghost use Rattle.std.specs.Prelude.{◌≡◌, drop};
 ghost use Rattle.scan.specs.Read.{read_bytes, line_end};
 

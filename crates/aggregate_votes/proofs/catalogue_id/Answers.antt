@@ -2,7 +2,6 @@
 use lib.ListN.{get_or-eq_default}
 use lib.IntN.{pos}
 use mathlib.Core.Path.{sym}
-use borrow.Author.Rules.{rules}
 use Rattle.aggregate_votes.proofs.catalogue_id.Goals as goal
 
 pub returns-else-i-catalogue : goal.returns-else-i-catalogue

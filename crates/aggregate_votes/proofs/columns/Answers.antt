@@ -3,14 +3,11 @@ use borrow.Author.Rules.{rules}
 use Rattle.aggregate_votes.proofs.Cells.{zeros_at, filled}
 use Rattle.aggregate_votes.specs.Table.{column_of}
 use Rattle.aggregate_votes.specs.Votes.{last_of}
-use lib.Dec.{ltb}
 use lib.IntN.{pos}
 use borrow.Author.Tests.{le-ltb}
 use lib.ListN.{length, length-set, get_or}
 use native.Mathlib.Omega.{arith}
-use mathlib.Core.Bool.{cond}
 use mathlib.Core.Path.{◌≡◌}
-use Prim.Native.Nat.{◌≤◌, ◌-◌, ℕ}
 use Rattle.aggregate_votes.proofs.columns.Goals as goal
 
 pub loop-j-init : goal.loop-j-init

@@ -1,13 +1,8 @@
 -- `aggregate_votes::columns` meets its contract: the columns before j are found, and the others are 0. Assumes nothing.
-use borrow.Author.Rules.{rules}
-use Rattle.aggregate_votes.proofs.Cells.{zeros_at, filled}
-use Rattle.aggregate_votes.specs.Table.{column_of}
 use Rattle.aggregate_votes.specs.Votes.{last_of}
 use lib.Dec.{ltb}
 use lib.IntN.{pos}
-use borrow.Author.Tests.{le-ltb}
-use lib.ListN.{length, length-set, get_or}
-use native.Mathlib.Omega.{arith}
+use lib.ListN.{length, get_or}
 use mathlib.Core.Bool.{cond}
 use mathlib.Core.Path.{◌≡◌}
 use Prim.Native.Nat.{◌≤◌, ◌-◌, ℕ}

@@ -1,10 +1,7 @@
 -- `aggregate_votes::last_of` meets its contract: found is the last of the first k results with the id. Assumes nothing.
-use borrow.Author.Rules.{rules}
 use Rattle.aggregate_votes.specs.Votes.{last_of}
 use lib.IntN.{pos}
 use lib.ListN.{length, get_or}
-use native.Mathlib.Omega.{arith}
-use native.Mathlib.Numerals.{add-one}
 use mathlib.Core.Path.{◌≡◌}
 use Prim.Native.Nat.{◌≤◌, ◌-◌}
 use Rattle.aggregate_votes.proofs.last_of.Given as goal

@@ -2,7 +2,7 @@
 use mir.Syntax.{w64}
 use mir.ValLaws.{to_z-of_z}
 use mathlib.Core.Path.{◌∙◌}
-use borrow.Author.Rules.{rules, sfits_of}
+use borrow.Author.Rules.{sfits_of}
 use Rattle.aggregate_votes.proofs.same_star.Goals as goal
 
 pub returns : goal.returns

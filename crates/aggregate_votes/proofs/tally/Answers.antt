@@ -1,11 +1,10 @@
 -- `aggregate_votes::tally` meets its contract: the table has the votes of the first m matches. Assumes nothing.
-use borrow.Author.Rules.{rules}
-use Rattle.aggregate_votes.proofs.Cells.{Tallied, start, stepped, column_le, ended}
+use Rattle.aggregate_votes.proofs.Cells.{start, stepped, column_le, ended}
 use Rattle.aggregate_votes.specs.Votes.{ids}
 use lib.ListN.{length, length-replicate}
 use native.Mathlib.Omega.{arith}
 use mathlib.Core.Path.{◌∙◌, sym, ap}
-use Prim.Native.Nat.{◌≤◌, ◌-◌, ℕ}
+use Prim.Native.Nat.{ℕ}
 use Rattle.aggregate_votes.proofs.tally.Goals as goal
 
 pub loop-m-init : goal.loop-m-init

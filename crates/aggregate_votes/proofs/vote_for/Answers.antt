@@ -5,7 +5,6 @@ use lib.ListN.{get_or}
 use native.Mathlib.Omega.{arith}
 use mathlib.Core.Path.{refl}
 use Prim.Native.Nat.{◌≤◌, ◌<◌}
-use borrow.Author.Rules.{rules}
 use Rattle.aggregate_votes.proofs.vote_for.Goals as goal
 
 pub returns-then-images-a : goal.returns-then-images-a

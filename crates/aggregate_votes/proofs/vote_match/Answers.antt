@@ -5,7 +5,6 @@ use lib.ListN.{get_or}
 use native.Mathlib.Omega.{arith}
 use mathlib.Core.Path.{◌∙◌}
 use Prim.Native.Nat.{◌+◌, ◌*◌, ℕ}
-use borrow.Author.Rules.{rules}
 use Rattle.aggregate_votes.proofs.vote_match.Goals as goal
 
 pub vote_for-p-requires : goal.vote_for-p-requires

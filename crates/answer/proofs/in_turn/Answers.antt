@@ -1,6 +1,5 @@
 -- `answer::in_turn` meets its contract: each return stands for the tests that led there. Assumes nothing.
 use mathlib.Core.Path.{sym, ◌∙◌}
-use borrow.Author.Rules.{rules}
 use Rattle.answer.proofs.in_turn.Goals as goal
 
 pub returns-then-is_before_room : goal.returns-then-is_before_room

@@ -1,5 +1,4 @@
 -- `answer::is_before_room` meets its contract: the two tests are of the refusal's number. Assumes nothing.
-use borrow.Author.Rules.{rules}
 use Rattle.answer.proofs.is_before_room.Goals as goal
 
 pub returns : goal.returns

@@ -1,8 +1,7 @@
 -- `cd_pool::greatest_of` meets its contract: the greater of what is held and the greatest of what is left is the greatest of all. Assumes nothing.
-use mathlib.Core.Path.{◌≡◌, ap}
-use Prim.Native.Nat.{◌≤◌, ◌-◌, max}
+use mathlib.Core.Path.{ap}
 use native.Mathlib.Omega.{arith}
-use lib.ListN.{length, drop, drop_of_length-le}
+use lib.ListN.{drop_of_length-le}
 use borrow.Author.Rules.{rules}
 use Rattle.cd_pool.specs.Pool.{greatest}
 use Rattle.cd_pool.proofs.Pools.{greatest_at}

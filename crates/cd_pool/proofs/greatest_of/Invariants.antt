@@ -1,11 +1,8 @@
 -- `cd_pool::greatest_of` meets its contract: the greater of what is held and the greatest of what is left is the greatest of all. Assumes nothing.
-use mathlib.Core.Path.{◌≡◌, ap}
-use Prim.Native.Nat.{◌≤◌, ◌-◌, max}
-use native.Mathlib.Omega.{arith}
-use lib.ListN.{length, drop, drop_of_length-le}
-use borrow.Author.Rules.{rules}
+use mathlib.Core.Path.{◌≡◌}
+use Prim.Native.Nat.{◌≤◌, max}
+use lib.ListN.{length, drop}
 use Rattle.cd_pool.specs.Pool.{greatest}
-use Rattle.cd_pool.proofs.Pools.{greatest_at}
 use Rattle.cd_pool.proofs.greatest_of.Given as goal
 
 abbrev pub invariant-loop-i : goal.invariant-loop-i

@@ -1,12 +1,11 @@
 -- `cd_pool::pool_of` meets its contract: what is taken, with the places still to come, is the pool. Assumes nothing.
-use mathlib.Core.Path.{◌≡◌, ap, ◌∙◌}
-use mathlib.Core.List.{◌++◌}
-use Prim.Native.Nat.{◌≤◌, ◌-◌, ◌/◌}
+use mathlib.Core.Path.{ap, ◌∙◌}
+use Prim.Native.Nat.{◌/◌}
 use native.Mathlib.Omega.{arith}
-use lib.ListN.{length, take, length-set}
+use lib.ListN.{length-set}
 use borrow.Author.Rules.{rules}
-use Rattle.cd_pool.specs.Pool.{least_of, places_from}
-use Rattle.cd_pool.proofs.Pools.{rest, one_le, turn, done, counted}
+use Rattle.cd_pool.specs.Pool.{least_of}
+use Rattle.cd_pool.proofs.Pools.{one_le, turn, done, counted}
 use Rattle.cd_pool.proofs.pool_of.Goals as goal
 
 pub overflow_add-count : goal.overflow_add-count

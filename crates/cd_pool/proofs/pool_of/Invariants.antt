@@ -1,12 +1,10 @@
 -- `cd_pool::pool_of` meets its contract: what is taken, with the places still to come, is the pool. Assumes nothing.
-use mathlib.Core.Path.{◌≡◌, ap, ◌∙◌}
+use mathlib.Core.Path.{◌≡◌}
 use mathlib.Core.List.{◌++◌}
-use Prim.Native.Nat.{◌≤◌, ◌-◌, ◌/◌}
-use native.Mathlib.Omega.{arith}
-use lib.ListN.{length, take, length-set}
-use borrow.Author.Rules.{rules}
-use Rattle.cd_pool.specs.Pool.{least_of, places_from}
-use Rattle.cd_pool.proofs.Pools.{rest, one_le, turn, done, counted}
+use Prim.Native.Nat.{◌≤◌}
+use lib.ListN.{length, take}
+use Rattle.cd_pool.specs.Pool.{places_from}
+use Rattle.cd_pool.proofs.Pools.{rest}
 use Rattle.cd_pool.proofs.pool_of.Given as goal
 
 abbrev pub invariant-loop-i : goal.invariant-loop-i

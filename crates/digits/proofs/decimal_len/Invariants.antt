@@ -1,10 +1,8 @@
 -- `digits::decimal_len` meets its contract: the loop's invariant counts the digits that are left.
 use Prim.Native.Nat.{◌+◌, ◌≤◌}
 use mathlib.Core.Path.{◌≡◌}
-use native.Mathlib.Omega.{arith}
 use lib.ListN.{length}
 use Rattle.digits.specs.Digits.{decimal_of}
-use Rattle.digits.proofs.Decimal.{length_decimal_one, length_decimal_more, length_decimal_most}
 use Rattle.digits.proofs.decimal_len.Given as goal
 
 abbrev pub invariant-loop-left : goal.invariant-loop-left

@@ -1,12 +1,9 @@
 -- `digits::put_hex` meets its contract: the loop's invariant: the digits that are left, put after those that are there, come to the whole.
 use Prim.Native.Nat.{◌+◌, ◌≤◌}
-use mathlib.Core.Path.{◌≡◌, ◌∙◌}
-use native.Mathlib.Omega.{arith}
+use mathlib.Core.Path.{◌≡◌}
 use lib.ListN.{length}
 use lib.Seq.{sets}
 use Rattle.digits.specs.Digits.{hex_from}
-use Rattle.digits.proofs.Hex.{hex_step, length_hex}
-use borrow.Author.Rules.{rules}
 use Rattle.digits.proofs.put_hex.Given as goal
 
 abbrev pub invariant-loop-k : goal.invariant-loop-k

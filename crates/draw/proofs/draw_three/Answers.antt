@@ -1,6 +1,5 @@
 -- `draw::draw_three` meets its contract: each place is that of its word. Assumes nothing.
 use Rattle.draw.specs.Draw.{triple_after}
-use borrow.Author.Rules.{rules}
 use Rattle.draw.proofs.draw_three.Goals as goal
 
 pub returns : goal.returns

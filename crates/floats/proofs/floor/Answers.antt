@@ -2,7 +2,6 @@
 use mathlib.Core.Path.{◌≡◌, refl, sym, subst, ◌∙◌}
 use mathlib.Core.Bool.{true, false}
 use lib.Dec.{T}
-use borrow.Author.Rules.{rules}
 use lib.Ieee.{Float, binary64, fits, lt, neg, of_bits}
 use Rattle.floats.proofs.Tests.{yes}
 use Rattle.floats.proofs.Floors.{most, least, held_high, held_under, held_none}

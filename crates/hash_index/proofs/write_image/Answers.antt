@@ -23,7 +23,7 @@ write_quad-requires c =
     let base = base_of (hash_at a.hashes.now a.i) in
     let e = eight_each a.places.now a.i a.catalogue.now a.lanes.now base a.m (omega (arith, c.requires.fact_1)) in
     let k = near_most a.lanes.now base 0 a.m in
-    let s = c.gather.auto.found in record { fact_1 = omega (arith, c.requires.fact_1); fact_2 = omega (arith, pre); fact_3 = omega (arith, pre); fact_4 = omega (arith, pre); fact_5 = rw (gathered c.before.before.before.before) (omega (arith, pre)) }
+    let s = c.gather.auto.found in record { fact_1 = omega (arith, c.requires.fact_1); fact_2 = omega (arith, c.requires); fact_3 = omega (arith, c.requires); fact_4 = omega (arith, c.requires); fact_5 = rw (gathered c.before.before.before.before) (omega (arith, c.requires)) }
 
 pub returns : goal.returns
 returns c = rw (gathered c.before.before.before.before.before.before.before) at c.write_quad.ensures

@@ -1,10 +1,7 @@
 -- `put::put_bytes` meets its contract: the loop's invariant: what is left of the bytes, put after those that are there, comes to the whole.
-use Prim.Native.Nat.{◌+◌, ◌-◌, ◌≤◌}
-use mathlib.Core.Path.{◌≡◌, ◌∙◌}
+use mathlib.Core.Path.{◌∙◌}
 use native.Mathlib.Omega.{arith}
 use native.Mathlib.Nat.{add-zero}
-use lib.ListN.{length, drop}
-use lib.Seq.{sets}
 use Rattle.put.proofs.Writing.{copy_step, copy_end}
 use borrow.Author.Rules.{rules}
 use Rattle.put.proofs.put_bytes.Goals as goal

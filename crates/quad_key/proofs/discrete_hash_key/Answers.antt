@@ -1,5 +1,4 @@
 -- `quad_key::discrete_hash_key` meets its contract: each lane by what `lane` ensures. Assumes nothing.
-use Rattle.std.proofs.Common.{rules}
 use Rattle.quad_key.specs.Key.{key_of, lane_of}
 use Rattle.quad_key.proofs.discrete_hash_key.Goals as goal
 

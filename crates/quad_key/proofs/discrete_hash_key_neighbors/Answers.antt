@@ -1,5 +1,5 @@
 -- `quad_key::discrete_hash_key_neighbors` meets its contract: a refusal stores nothing, and three runs of 27 stores make the list. Assumes nothing.
-use Rattle.std.proofs.Common.{refl, rules, lt-ltb}
+use Rattle.std.proofs.Common.{refl, lt-ltb}
 use Rattle.quad_key.proofs.Keys.{done}
 use Rattle.quad_key.proofs.discrete_hash_key_neighbors.Goals as goal
 

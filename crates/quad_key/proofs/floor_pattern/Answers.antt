@@ -1,5 +1,5 @@
 -- `quad_key::floor_pattern` meets its contract: a held floor is read back as it is. Assumes nothing.
-use Rattle.std.proofs.Common.{ap, ◌∙◌, rules}
+use Rattle.std.proofs.Common.{ap, ◌∙◌}
 use Rattle.floats.specs.Floor.{floor_of}
 use Rattle.quad_key.specs.Key.{hundredth, pattern32}
 use Rattle.quad_key.proofs.Signed.{read_held}

@@ -1,5 +1,4 @@
 -- `quad_key::three_lanes` meets its contract: each lane by what `lane` ensures. Assumes nothing.
-use Rattle.std.proofs.Common.{rules}
 use Rattle.quad_key.specs.Key.{lane_of}
 use Rattle.quad_key.proofs.three_lanes.Goals as goal
 

@@ -1,5 +1,5 @@
 -- `quad_key::write_27` meets its contract: three runs of nine stores. Assumes nothing.
-use Rattle.std.proofs.Common.{◌+◌, ◌*◌, ◌^◌, refl, rules}
+use Rattle.std.proofs.Common.{◌+◌, ◌*◌, ◌^◌, refl}
 use Rattle.quad_key.specs.Steps.{nine_keys}
 use Rattle.quad_key.proofs.Stores.{thrice}
 use Rattle.quad_key.proofs.write_27.Goals as goal

@@ -1,5 +1,5 @@
 -- `quad_key::write_3` meets its contract: three stores, one after another. Assumes nothing.
-use Rattle.std.proofs.Common.{add-one, arith, length-set, rules}
+use Rattle.std.proofs.Common.{add-one, arith, length-set}
 use native.Mathlib.Numerals.{add-two}
 use Rattle.quad_key.proofs.write_3.Goals as goal
 

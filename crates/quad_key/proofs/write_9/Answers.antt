@@ -1,5 +1,5 @@
 -- `quad_key::write_9` meets its contract: three runs of three stores. Assumes nothing.
-use Rattle.std.proofs.Common.{◌+◌, ◌*◌, ◌^◌, refl, rules}
+use Rattle.std.proofs.Common.{◌+◌, ◌*◌, ◌^◌, refl}
 use Rattle.quad_key.specs.Steps.{three_keys}
 use Rattle.quad_key.proofs.Stores.{thrice}
 use Rattle.quad_key.proofs.write_9.Goals as goal

@@ -1,10 +1,8 @@
 -- `scan::line_end` meets its contract: the loop's invariant: the line ends where it ends from here.
-use native.Mathlib.Omega.{arith}
 use Prim.Native.Nat.{◌-◌}
-use mathlib.Core.Path.{◌≡◌, refl, ◌∙◌}
+use mathlib.Core.Path.{◌≡◌}
 use lib.ListN.{length, drop}
 use Rattle.scan.specs.Read.{line_end}
-use Rattle.scan.proofs.Reading.{line_more, line_found, line_none}
 use Rattle.scan.proofs.line_end.Given as goal
 
 abbrev pub invariant-loop-p : goal.invariant-loop-p

@@ -1,9 +1,6 @@
 -- `scan::read_bytes` meets its contract: the loop's invariant: reading on from here comes to the same as reading from the start.
 use native.Mathlib.Omega.{arith}
-use mathlib.Core.Path.{◌≡◌, refl, ◌∙◌}
-use Prim.Native.Nat.{◌-◌, ◌≤◌}
-use lib.ListN.{length, drop}
-use Rattle.scan.specs.Read.{read_bytes}
+use mathlib.Core.Path.{refl, ◌∙◌}
 use Rattle.scan.proofs.Reading.{bytes_more, bytes_short, bytes_wrong, bytes_end}
 use Rattle.scan.proofs.read_bytes.Goals as goal
 
