@@ -1,4 +1,6 @@
 // The best result of each detection, by the table of votes.
+#![tactic(auto)]
+
 ghost use Rattle.std.specs.Prelude.{◌≡◌, ℕ, ◌<◌, ◌≤◌, length, get_or};
 ghost use Rattle.aggregate_best.specs.Best.{better, choose, best};
 ghost use Rattle.aggregate_best.specs.Held.{held, row};

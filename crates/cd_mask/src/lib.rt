@@ -1,4 +1,6 @@
 // Masks: a byte for each row, one where the row is on and zero where it is off.
+#![tactic(auto)]
+
 ghost use Rattle.std.specs.Prelude.{◌≡◌, ◌≤◌, eqb, length, replicate};
 ghost use Rattle.answer.specs.Answers.{written};
 ghost use Rattle.cd_mask.specs.Marks.{byte_of, ones};

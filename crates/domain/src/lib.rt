@@ -1,4 +1,6 @@
 // Which numbers the calls take.
+#![tactic(auto)]
+
 ghost use Rattle.std.specs.Prelude.{◌≡◌};
 ghost use Rattle.domain.specs.Domain.{between, is_position, is_finite, is_snr, is_weight, is_limit, is_mask_byte, every};
 

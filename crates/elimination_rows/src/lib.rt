@@ -1,4 +1,6 @@
 // One column of an elimination on a flat matrix, n rows and w numbers to a row: the search for its pivot, the swap, and each row below less a multiple of the pivot's.
+#![tactic(auto)]
+
 ghost use Rattle.std.specs.Prelude.{◌≡◌, ◌+◌, ◌*◌, ◌-◌, ◌<◌, ◌≤◌, length, get_or, set, take, drop};
 ghost use Rattle.std.specs.Float.{nan};
 ghost use Rattle.floats.specs.Magnitude.{magnitude_of};

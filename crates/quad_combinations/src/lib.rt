@@ -1,4 +1,6 @@
 // The sets of four places below n, one after another in rising order, as a step by value.
+#![tactic(auto)]
+
 ghost use Rattle.std.specs.Prelude.{◌≡◌, true, ◌≤◌};
 ghost use Rattle.quad_combinations.specs.Combinations.{four, standing, ended, is_rising, start_of, after_of, step_of};
 

@@ -14,7 +14,7 @@ use lib.Ieee.Exact.{HasValue}
 use lib.Ieee.Scale.{finite}
 use lib.Ieee.Positive.{positive_of_value}
 use Rattle.floats.specs.Patterns.{in_units, field_units, units_at}
-use Rattle.floats.proofs.Patterns.{of_bits_is, read, units_are, of_pattern, pattern}
+use Rattle.floats.proofs.Patterns.{of_bits_is, read, units_are, of_pattern}
 use Rattle.root.specs.Root.{root_squared, Nearer, PositiveRoot}
 use Rattle.root.specs.Steps.{Rooted}
 use Rattle.root.proofs.Brought.{pow_lt_back}

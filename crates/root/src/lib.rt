@@ -1,4 +1,6 @@
 // The square root of the solver, on every f64.
+#![tactic(auto)]
+
 ghost use Rattle.std.specs.Prelude.{◌≡◌, ℕ, ◌+◌, ◌*◌, ◌^◌, ◌≤◌, ◌<◌};
 ghost use Rattle.floats.specs.Patterns.{units_at};
 ghost use Rattle.root.specs.Root.{root_of, IsRoot};

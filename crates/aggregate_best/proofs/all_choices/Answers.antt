@@ -1,12 +1,11 @@
 -- `aggregate_best::all_choices` meets its contract: the choices of the first d detections are found. Assumes nothing.
 use borrow.Author.Rules.{rules}
 use Rattle.aggregate_best.proofs.Filled.{filled}
-use Rattle.aggregate_best.specs.Held.{held, row}
+use Rattle.aggregate_best.specs.Held.{row}
 use Rattle.aggregate_best.specs.Best.{best}
 use lib.ListN.{length, length-set}
 use native.Mathlib.Omega.{arith}
-use mathlib.Core.Path.{◌≡◌}
-use Prim.Native.Nat.{◌≤◌, ◌<◌, ◌-◌, ℕ}
+use Prim.Native.Nat.{◌<◌}
 use Rattle.aggregate_best.proofs.all_choices.Goals as goal
 
 pub loop-d-init : goal.loop-d-init

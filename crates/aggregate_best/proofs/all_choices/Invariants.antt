@@ -1,10 +1,7 @@
 -- `aggregate_best::all_choices` meets its contract: the choices of the first d detections are found. Assumes nothing.
-use borrow.Author.Rules.{rules}
-use Rattle.aggregate_best.proofs.Filled.{filled}
 use Rattle.aggregate_best.specs.Held.{held, row}
 use Rattle.aggregate_best.specs.Best.{best}
-use lib.ListN.{length, length-set}
-use native.Mathlib.Omega.{arith}
+use lib.ListN.{length}
 use mathlib.Core.Path.{◌≡◌}
 use Prim.Native.Nat.{◌≤◌, ◌<◌, ◌-◌, ℕ}
 use Rattle.aggregate_best.proofs.all_choices.Given as goal

@@ -1,10 +1,7 @@
 -- `aggregate_best::best_of` meets its contract: c is the best of the first r results. Assumes nothing.
-use borrow.Author.Rules.{rules}
 use Rattle.aggregate_best.specs.Held.{row}
 use Rattle.aggregate_best.specs.Best.{best}
 use lib.ListN.{length}
-use native.Mathlib.Omega.{arith}
-use native.Mathlib.Numerals.{add-one}
 use mathlib.Core.Path.{◌≡◌}
 use Prim.Native.Nat.{◌≤◌, ◌-◌}
 use Rattle.aggregate_best.proofs.best_of.Given as goal

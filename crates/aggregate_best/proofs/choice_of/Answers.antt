@@ -1,7 +1,6 @@
 -- `aggregate_best::choice_of` meets its contract. Assumes nothing.
 use lib.ListN.{get_or-eq_default}
 use mathlib.Core.Path.{sym}
-use borrow.Author.Rules.{rules}
 use Rattle.aggregate_best.proofs.choice_of.Goals as goal
 
 pub returns-else-i-at : goal.returns-else-i-at

@@ -1,7 +1,6 @@
 -- `aggregate_best::chosen` meets its contract. Assumes nothing.
 use Rattle.aggregate_best.specs.Best.{choose}
 use borrow.Author.Tests.{eq-eqb, ne_eqb}
-use borrow.Author.Rules.{rules}
 use Rattle.aggregate_best.proofs.chosen.Goals as goal
 
 pub returns-then-v-eq0 : goal.returns-then-v-eq0

@@ -1,7 +1,6 @@
 -- `aggregate_best::is_better` meets its contract. Assumes nothing.
 use Rattle.aggregate_best.specs.Best.{better}
 use borrow.Author.Tests.{eq-eqb, ne_eqb, lt-ltb, le-ltb}
-use borrow.Author.Rules.{rules}
 use Rattle.aggregate_best.proofs.is_better.Goals as goal
 
 pub returns-then-c-v : goal.returns-then-c-v

@@ -1,11 +1,11 @@
 -- `cd_mask::count_on` meets its contract: the count, with the ones still to come, is all of them. Assumes nothing.
-use mathlib.Core.Path.{◌≡◌, ap}
+use mathlib.Core.Path.{ap}
 use mathlib.Core.Bool.{Bool}
-use Prim.Native.Nat.{ℕ, ◌≤◌, ◌-◌, ◌+◌}
+use Prim.Native.Nat.{ℕ}
 use mathlib.Core.List.{List}
 use native.Mathlib.Omega.{arith}
 use lib.Dec.{eqb}
-use lib.ListN.{length, get_or, drop, drop_of_length-le}
+use lib.ListN.{get_or, drop_of_length-le}
 use borrow.Author.Rules.{rules}
 use Rattle.cd_mask.specs.Marks.{ones}
 use Rattle.cd_mask.proofs.Marking.{byte_small, ones_at}

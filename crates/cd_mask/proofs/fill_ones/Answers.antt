@@ -1,20 +1,18 @@
 -- `cd_mask::fill_ones` meets its contract: after i turns the first i bytes are one. Assumes nothing.
 use mathlib.Core.Path.{◌≡◌, sym, ap, ◌∙◌}
 use mathlib.Core.List.{◌++◌}
-use Prim.Native.Nat.{◌≤◌, ◌-◌}
 use native.Mathlib.Omega.{arith}
-use lib.ListN.{length, set, drop, replicate, length-set, length-replicate}
+use lib.ListN.{set, drop, replicate, length-set, length-replicate}
 use borrow.Author.Rules.{rules}
 use borrow.Author.Fill.{fill_more}
 use Rattle.cd_mask.proofs.fill_ones.Goals as goal
 
 pub loop-i-preserved : goal.loop-i-preserved
-loop-i-preserved c =
-    (
-      search rules,
-      simp length-set c.loop-i.invariant.1,
-      ap (λ l. set l c.loop-i.i 1) c.loop-i.invariant.2 ∙ fill_more c.loop-i.i 1 c.args.mask.now (omega arith),
-    )
+loop-i-preserved c = (
+  search rules,
+  simp length-set c.loop-i.invariant.1,
+  ap (λ l. set l c.loop-i.i 1) c.loop-i.invariant.2 ∙ fill_more c.loop-i.i 1 c.args.mask.now (omega arith),
+)
 
 pub returns : goal.returns
 returns c =

@@ -1,11 +1,8 @@
 -- `cd_mask::fill_ones` meets its contract: after i turns the first i bytes are one. Assumes nothing.
-use mathlib.Core.Path.{◌≡◌, sym, ap, ◌∙◌}
+use mathlib.Core.Path.{◌≡◌}
 use mathlib.Core.List.{◌++◌}
-use Prim.Native.Nat.{◌≤◌, ◌-◌}
-use native.Mathlib.Omega.{arith}
-use lib.ListN.{length, set, drop, replicate, length-set, length-replicate}
-use borrow.Author.Rules.{rules}
-use borrow.Author.Fill.{fill_more}
+use Prim.Native.Nat.{◌≤◌}
+use lib.ListN.{length, drop, replicate}
 use Rattle.cd_mask.proofs.fill_ones.Given as goal
 
 abbrev pub invariant-loop-i : goal.invariant-loop-i

@@ -1,11 +1,7 @@
 -- `domain::all_between` meets its contract: what is left of the list, tested after what was, comes to the whole. Assumes nothing.
 use borrow.Author.Rules.{rules}
-use mathlib.Core.Path.{◌≡◌}
-use Prim.Native.Nat.{◌-◌}
-use lib.ListN.{length}
 use lib.Ieee.{nan}
-use Rattle.domain.specs.Domain.{between}
-use Rattle.domain.proofs.Every.{Left, start, again, done}
+use Rattle.domain.proofs.Every.{start, again, done}
 use Rattle.domain.proofs.all_between.Goals as goal
 
 pub loop-i-init : goal.loop-i-init

@@ -1,10 +1,6 @@
 -- `domain::all_mask_bytes` meets its contract: what is left of the list, tested after what was, comes to the whole. Assumes nothing.
 use borrow.Author.Rules.{rules}
-use mathlib.Core.Path.{◌≡◌}
-use Prim.Native.Nat.{◌-◌}
-use lib.ListN.{length}
-use Rattle.domain.specs.Domain.{is_mask_byte}
-use Rattle.domain.proofs.Every.{Left, start, again, done}
+use Rattle.domain.proofs.Every.{start, again, done}
 use Rattle.domain.proofs.all_mask_bytes.Goals as goal
 
 pub loop-i-init : goal.loop-i-init

@@ -1,10 +1,8 @@
 -- `domain::all_mask_bytes` meets its contract: what is left of the list, tested after what was, comes to the whole. Assumes nothing.
-use borrow.Author.Rules.{rules}
 use mathlib.Core.Path.{◌≡◌}
-use Prim.Native.Nat.{◌-◌}
 use lib.ListN.{length}
 use Rattle.domain.specs.Domain.{is_mask_byte}
-use Rattle.domain.proofs.Every.{Left, start, again, done}
+use Rattle.domain.proofs.Every.{Left}
 use Rattle.domain.proofs.all_mask_bytes.Given as goal
 
 abbrev pub invariant-loop-i : goal.invariant-loop-i

@@ -1,5 +1,4 @@
 -- `elimination_rows::bring_up` meets its contract: a row that is its own pivot stays. Assumes nothing.
-use borrow.Author.Rules.{rules}
 use Rattle.elimination_rows.proofs.Turns.{swap_own}
 use Rattle.elimination_rows.proofs.bring_up.Goals as goal
 

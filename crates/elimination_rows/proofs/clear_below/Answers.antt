@@ -4,7 +4,6 @@ use mathlib.Core.Path.{◌≡◌, ◌∙◌, ap, sym}
 use native.Mathlib.Omega.{arith}
 use lib.Seq.{length-take-le, take_at}
 use lib.ListN.{length}
-use borrow.Author.Rules.{rules}
 use Rattle.elimination_rows.proofs.Turns.{tail_long}
 use Rattle.elimination_rows.proofs.Flat.{in_row}
 use Rattle.elimination_rows.proofs.clear_below.Goals as goal

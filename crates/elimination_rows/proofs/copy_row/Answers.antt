@@ -1,12 +1,11 @@
 -- `elimination_rows::copy_row` meets its contract: the places below k are copied. Assumes nothing.
-use Prim.Native.Nat.{◌≤◌, ◌-◌}
-use mathlib.Core.Path.{◌≡◌, refl}
+use mathlib.Core.Path.{refl}
 use native.Mathlib.Omega.{arith}
 use lib.Seq.{ext_get_or}
 use lib.Ieee.{nan}
-use lib.ListN.{length, get_or, length-set}
+use lib.ListN.{get_or, length-set}
 use borrow.Author.Rules.{rules}
-use Rattle.elimination_rows.proofs.Turns.{Front, front_none, front_more, front_all}
+use Rattle.elimination_rows.proofs.Turns.{front_none, front_more, front_all}
 use Rattle.elimination_rows.proofs.copy_row.Goals as goal
 
 pub loop-k-init : goal.loop-k-init

@@ -1,12 +1,10 @@
 -- `elimination_rows::pivot_row` meets its contract: the pivot of the rows before r. Assumes nothing.
-use Prim.Native.Nat.{◌+◌, ◌≤◌, ◌<◌, ◌-◌}
 use mathlib.Core.Path.{◌≡◌, ◌∙◌, ap}
 use native.Mathlib.Omega.{arith}
-use borrow.Author.Rules.{rules}
 use Rattle.floats.specs.Magnitude.{magnitude_of}
 use Rattle.elimination_rows.proofs.Turns.{pivot_none, pivot_taken, pivot_left}
 use Rattle.elimination_rows.proofs.Flat.{in_cell}
-use Rattle.elimination_rows.specs.Matrix.{cells, pivot_row}
+use Rattle.elimination_rows.specs.Matrix.{cells}
 use Rattle.elimination_rows.proofs.pivot_row.Goals.{then-v-size, else-v-size}
 use Rattle.elimination_rows.proofs.pivot_row.Goals as goal
 
@@ -26,10 +24,10 @@ loop-r-preserved c =
     let m = cells a.m.now a.w in
     let o : c.magnitude-v.result ≡ magnitude_of (m i.r a.col) = c.magnitude-v.ensures ∙ ap magnitude_of c.cell_at-in-loop-r.ensures in
     elim c.if-v-size.branch [
-      then-v-size w ↦
-        (w.row-is ∙ pivot_taken m a.col i.r i.row i.size c.magnitude-v.result i.invariant.3 i.invariant.0 i.invariant.1 o w.if-v-size.true, rw w.row-is (w.size-is ∙ o), omega arith, omega arith, omega arith)
-    | else-v-size w ↦
-        (w.row-is ∙ pivot_left m a.col i.r i.row i.size c.magnitude-v.result i.invariant.3 i.invariant.0 i.invariant.1 o w.if-v-size.false, rw w.row-is (w.size-is ∙ i.invariant.1), omega arith, omega arith, omega arith)
+      | then-v-size w ↦
+          (w.row-is ∙ pivot_taken m a.col i.r i.row i.size c.magnitude-v.result i.invariant.3 i.invariant.0 i.invariant.1 o w.if-v-size.true, rw w.row-is (w.size-is ∙ o), omega arith, omega arith, omega arith)
+      | else-v-size w ↦
+          (w.row-is ∙ pivot_left m a.col i.r i.row i.size c.magnitude-v.result i.invariant.3 i.invariant.0 i.invariant.1 o w.if-v-size.false, rw w.row-is (w.size-is ∙ i.invariant.1), omega arith, omega arith, omega arith)
     ]
 
 pub returns : goal.returns

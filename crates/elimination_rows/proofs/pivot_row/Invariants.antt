@@ -1,12 +1,7 @@
 -- `elimination_rows::pivot_row` meets its contract: the pivot of the rows before r. Assumes nothing.
 use Prim.Native.Nat.{◌+◌, ◌≤◌, ◌<◌, ◌-◌}
-use mathlib.Core.Logic.{⊎_elim}
-use mathlib.Core.Path.{◌≡◌, ◌∙◌, ap}
-use native.Mathlib.Omega.{arith}
-use borrow.Author.Rules.{rules}
+use mathlib.Core.Path.{◌≡◌}
 use Rattle.floats.specs.Magnitude.{magnitude_of}
-use Rattle.elimination_rows.proofs.Turns.{pivot_none, pivot_taken, pivot_left}
-use Rattle.elimination_rows.proofs.Flat.{in_cell}
 use Rattle.elimination_rows.specs.Matrix.{cells, pivot_row}
 use Rattle.elimination_rows.proofs.pivot_row.Given as goal
 

@@ -2,7 +2,6 @@
 use Prim.Native.Nat.{◌+◌, ◌-◌, ◌*◌}
 use mathlib.Core.Path.{◌≡◌}
 use native.Mathlib.Omega.{arith}
-use borrow.Author.Rules.{rules}
 use Rattle.elimination_rows.proofs.Turns.{row_less}
 use Rattle.elimination_rows.proofs.Flat.{in_row}
 use Rattle.elimination_rows.proofs.reduce_row.Goals as goal

@@ -1,13 +1,10 @@
 -- `elimination_rows::reduce_rows` meets its contract: the rows before `row` are reduced. Assumes nothing.
-use Prim.Native.Nat.{◌≤◌, ◌<◌, ◌-◌, ◌*◌}
 use mathlib.Core.Path.{◌≡◌, ◌∙◌}
 use native.Mathlib.Omega.{arith}
-use lib.ListN.{length}
 use borrow.Author.Rules.{rules}
-use Rattle.elimination_rows.proofs.Turns.{tail_read, tail_long, up_to, reduce_none, reduce_more, reduce_all}
+use Rattle.elimination_rows.proofs.Turns.{tail_read, tail_long, reduce_none, reduce_more, reduce_all}
 use Rattle.elimination_rows.proofs.Flat.{in_cell}
-use Rattle.elimination_rows.specs.Holds.{Holds}
-use Rattle.elimination_rows.specs.Matrix.{cells, reduced}
+use Rattle.elimination_rows.specs.Matrix.{cells}
 use Rattle.elimination_rows.proofs.reduce_rows.Goals as goal
 
 pub cell_at-d-requires : goal.cell_at-d-requires

@@ -1,11 +1,10 @@
 -- `elimination_rows::subtract` meets its contract: the places below k are done, the others as they were. Assumes nothing.
-use Prim.Native.Nat.{ℕ, ◌≤◌, ◌<◌, ◌-◌}
-use mathlib.Core.Path.{◌≡◌}
+use Prim.Native.Nat.{ℕ, ◌<◌}
 use native.Mathlib.Omega.{arith}
 use lib.Ieee.{Float, nan, binary64, sub, mul}
 use lib.ListN.{length, get_or, length-set}
 use borrow.Author.Rules.{rules}
-use Rattle.elimination_rows.proofs.Turns.{Front, front_none, front_next, front_more, front_all}
+use Rattle.elimination_rows.proofs.Turns.{front_none, front_next, front_more, front_all}
 use Rattle.elimination_rows.proofs.subtract.Goals as goal
 
 pub loop-k-init : goal.loop-k-init

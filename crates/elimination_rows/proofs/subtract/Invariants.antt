@@ -1,11 +1,9 @@
 -- `elimination_rows::subtract` meets its contract: the places below k are done, the others as they were. Assumes nothing.
-use Prim.Native.Nat.{ℕ, ◌≤◌, ◌<◌, ◌-◌}
+use Prim.Native.Nat.{◌≤◌}
 use mathlib.Core.Path.{◌≡◌}
-use native.Mathlib.Omega.{arith}
-use lib.Ieee.{Float, nan, binary64, sub, mul}
-use lib.ListN.{length, get_or, length-set}
-use borrow.Author.Rules.{rules}
-use Rattle.elimination_rows.proofs.Turns.{Front, front_none, front_next, front_more, front_all}
+use lib.Ieee.{nan, binary64, sub, mul}
+use lib.ListN.{length, get_or}
+use Rattle.elimination_rows.proofs.Turns.{Front}
 use Rattle.elimination_rows.proofs.subtract.Given as goal
 
 abbrev pub invariant-loop-k : goal.invariant-loop-k

@@ -1,12 +1,9 @@
 -- `elimination_rows::swap_rows` meets its contract: the columns below k are swapped. Assumes nothing.
-use Prim.Native.Nat.{◌≤◌, ◌-◌, ◌*◌}
 use mathlib.Core.Path.{◌≡◌, ◌∙◌}
 use native.Mathlib.Omega.{arith}
-use lib.ListN.{length}
 use borrow.Author.Rules.{rules}
-use Rattle.elimination_rows.proofs.Turns.{swapped_to, swap_none, swap_more, swap_all}
+use Rattle.elimination_rows.proofs.Turns.{swap_none, swap_more, swap_all}
 use Rattle.elimination_rows.proofs.Flat.{in_row}
-use Rattle.elimination_rows.specs.Holds.{Holds}
 use Rattle.elimination_rows.specs.Matrix.{cells}
 use Rattle.elimination_rows.proofs.swap_rows.Goals as goal
 

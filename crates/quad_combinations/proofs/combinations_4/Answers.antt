@@ -1,7 +1,6 @@
 -- `combinations_4` meets its contract: the refusal, no set, and the first. Assumes nothing.
 use native.Mathlib.Omega.{arith}
 use borrow.Author.Tests.{lt-ltb, le-ltb}
-use borrow.Author.Rules.{rules}
 use Rattle.quad_combinations.specs.Combinations.{start_of}
 use Rattle.quad_combinations.proofs.combinations_4.Goals as goal
 

@@ -1,5 +1,4 @@
 -- `root::root_bits` meets its contract. Assumes nothing.
-use borrow.Author.Rules.{rules}
 use mathlib.Core.Path.{sym, subst}
 use Prim.Native.Nat.{ℕ}
 use native.Mathlib.Omega.{arith}
@@ -14,8 +13,8 @@ evened c =
     let m = c.scaled-s.result.m in
     let e = c.scaled-s.result.e in
     elim c.if-e-eq0.branch [
-      then-e-eq0 w ↦ subst (λ (k : ℕ). Evened m e k) (sym w.n-is) (even s w.if-e-eq0.true)
-    | else-e-eq0 w ↦ subst (λ (k : ℕ). Evened m e k) (sym w.n-is) (uneven s w.if-e-eq0.false)
+      | then-e-eq0 w ↦ subst (λ (k : ℕ). Evened m e k) (sym w.n-is) (even s w.if-e-eq0.true)
+      | else-e-eq0 w ↦ subst (λ (k : ℕ). Evened m e k) (sym w.n-is) (uneven s w.if-e-eq0.false)
     ]
 
 pub overflow_add-m : goal.overflow_add-m

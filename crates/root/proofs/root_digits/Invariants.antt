@@ -1,9 +1,6 @@
 -- `root::root_digits` meets its contract. The invariant is `Digits`, and the measure is the bit. Assumes nothing.
-use mathlib.Core.Path.{refl, subst}
-use Prim.Native.Nat.{ℕ, ◌*◌, ◌^◌}
-use native.Mathlib.Omega.{arith}
-use Rattle.root.proofs.Digits.{Digits, set, clear}
-use Rattle.root.proofs.Divided.{IsWhole, halfway, loop_sum}
+use Prim.Native.Nat.{◌*◌, ◌^◌}
+use Rattle.root.proofs.Digits.{Digits}
 use Rattle.root.proofs.root_digits.Given as goal
 
 abbrev pub invariant-loop-bit : goal.invariant-loop-bit

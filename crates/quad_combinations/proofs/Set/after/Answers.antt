@@ -1,7 +1,6 @@
 -- `Set::after` meets its contract: one return for each place that can be the last to rise. Assumes nothing.
 use mathlib.Core.Path.{◌∙◌}
 use native.Mathlib.Omega.{arith}
-use borrow.Author.Rules.{rules}
 use Rattle.quad_combinations.proofs.Rising.{rises, after_d, after_c, after_b, after_a, raised}
 use Rattle.quad_combinations.proofs.Set.after.Goals as goal
 

@@ -1,6 +1,5 @@
 -- `Set::is_rising` meets its contract: one return for each test. Assumes nothing.
 use native.Mathlib.Omega.{arith}
-use borrow.Author.Rules.{rules}
 use Rattle.quad_combinations.proofs.Rising.{not_rising, last_test}
 use Rattle.quad_combinations.proofs.Set.is_rising.Goals as goal
 
