@@ -1,4 +1,6 @@
 // The six outputs of the pairs, written from the front of lent lists.
+#![tactic(auto)]
+
 ghost use Rattle.std.specs.Prelude.{◌≡◌, ◌≤◌, length, get_or};
 ghost use Rattle.std.specs.Float.{nan};
 ghost use Rattle.aggregate_outputs.specs.Gather.{gathered};

@@ -1,4 +1,6 @@
 // The root mean square of residuals, plain and weighted.
+#![tactic(auto)]
+
 ghost use Rattle.std.specs.Prelude.{◌≡◌, ◌≤◌, length};
 ghost use Rattle.cd_rms.specs.Rms.{squares_to, rms_of, rms_answer, rms_number, no_weights, with_error, weighted_to, weighted_of, weighted_answer};
 

@@ -1,4 +1,6 @@
 // Elimination with partial pivoting on a flat matrix: n rows, w numbers to a row, the right sides in the columns from n on.
+#![tactic(auto)]
+
 ghost use Rattle.std.specs.Prelude.{◌≡◌, ◌+◌, ◌*◌, ◌<◌, ◌≤◌, length};
 ghost use Rattle.elimination_rows.specs.Matrix.{cells};
 ghost use Rattle.elimination.specs.Elimination.{eliminated, row_less, unknowns};

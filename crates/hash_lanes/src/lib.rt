@@ -1,5 +1,7 @@
 // The lanes of a list of quads, and how near a quad's lanes are to those of a hash. Lane i of quad j stands
 // at 12000 i + j, so that a loop over the quads of one lane compiles to vector code.
+#![tactic(auto)]
+
 ghost use Rattle.std.specs.Prelude.{◌≡◌, ◌+◌, ◌*◌, ◌<◌, ◌≤◌, length};
 ghost use Rattle.hash_lanes.specs.Lanes.{hash_at, Laned, base_of, lane_of_key, with_lanes, above, near_lane, near_at, steps_at};
 

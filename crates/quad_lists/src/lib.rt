@@ -1,4 +1,6 @@
 // The neighbours of all stars, and by them the sets of a seed that no smaller seed has visited.
+#![tactic(auto)]
+
 ghost use Rattle.std.specs.Prelude.{◌≡◌, false, ◌&&◌, ℕ, ◌+◌, ◌-◌, ◌*◌, ◌<◌, ◌≤◌, min, eqb, length, take, get_or};
 ghost use Rattle.quad_near.specs.Near.{nearest};
 ghost use Rattle.quad_near.specs.Kept.{FiniteStars};

@@ -1,4 +1,6 @@
 // Rows: four lists of one length, with a pixel and a point of the tangent plane for each row.
+#![tactic(auto)]
+
 ghost use Rattle.std.specs.Prelude.{◌≡◌, ◌<◌, length};
 ghost use Rattle.rows.specs.Rows.{rows, row_at, few_rows, even_rows, position_rows, rows_answer};
 

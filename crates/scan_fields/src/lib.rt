@@ -1,4 +1,6 @@
 // Fields read from a slice, at a place: a name, a number, and the text that has to follow it.
+#![tactic(auto)]
+
 ghost use Rattle.std.specs.Prelude.{◌≡◌, drop};
 ghost use Rattle.scan.specs.Read.{read_bytes};
 ghost use Rattle.scan_fields.specs.Fields.{ended_at, hex_field, decimal_field};

@@ -1,4 +1,6 @@
 // Lines of text, put into a buffer at a place.
+#![tactic(auto)]
+
 ghost use Rattle.std.specs.Float.Ieee.{to_bits};
 ghost use Rattle.std.specs.Float.{binary64};
 ghost use Rattle.put.specs.Put.{Put, Room};

@@ -1,12 +1,9 @@
 -- `aggregate_outputs::put_values` meets its contract: the first p values are written, and the rest is as it was. Assumes nothing.
 use lib.Ieee.{nan}
 use Prim.Native.Nat.{◌≤◌, ◌-◌}
-use mathlib.Core.Path.{◌≡◌, refl}
-use native.Mathlib.Omega.{arith}
-use lib.ListN.{length, length-set, get_or}
+use mathlib.Core.Path.{◌≡◌}
+use lib.ListN.{length, get_or}
 use Rattle.aggregate_outputs.specs.Gather.{gathered}
-use Rattle.aggregate_outputs.proofs.Outputs.{put_step}
-use borrow.Author.Rules.{rules}
 use Rattle.aggregate_outputs.proofs.put_values.Given as goal
 
 abbrev pub invariant-loop-p : goal.invariant-loop-p

@@ -1,11 +1,8 @@
 -- `aggregate_outputs::put_votes` meets its contract: the first p counts are written, and the rest is as it was. Assumes nothing.
-use Prim.Native.Nat.{◌≤◌, ◌-◌}
 use mathlib.Core.Path.{◌≡◌, refl}
 use native.Mathlib.Omega.{arith}
-use lib.ListN.{length, length-set, get_or}
-use Rattle.aggregate_outputs.specs.Gather.{gathered}
+use lib.ListN.{length-set, get_or}
 use Rattle.aggregate_outputs.proofs.Outputs.{put_step}
-use borrow.Author.Rules.{rules}
 use Rattle.aggregate_outputs.proofs.put_votes.Goals as goal
 
 pub loop-p-init : goal.loop-p-init

@@ -2,7 +2,6 @@
 use lib.Ieee.{nan, div, of_bits}
 use lib.ListN.{get_or-eq_default}
 use mathlib.Core.Path.{sym}
-use borrow.Author.Rules.{rules}
 use Rattle.aggregate_outputs.proofs.value_of.Goals as goal
 
 pub returns-else-i-xs : goal.returns-else-i-xs

@@ -1,5 +1,4 @@
 -- `aggregate_outputs::write_all` meets its contract. Assumes nothing.
-use borrow.Author.Rules.{rules}
 use Rattle.aggregate_outputs.proofs.write_all.Goals as goal
 
 pub write_lists-requires : goal.write_lists-requires

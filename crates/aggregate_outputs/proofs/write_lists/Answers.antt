@@ -1,5 +1,4 @@
 -- `aggregate_outputs::write_lists` meets its contract. Assumes nothing.
-use borrow.Author.Rules.{rules}
 use Rattle.aggregate_outputs.proofs.write_lists.Goals as goal
 
 pub put_values-requires-3 : goal.put_values-requires-3

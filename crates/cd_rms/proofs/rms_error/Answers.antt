@@ -1,6 +1,5 @@
 -- `cd_rms::rms_error` meets its contract: each test has its own return. Assumes nothing.
 use borrow.Author.Tests.{lt-ltb, le-ltb}
-use borrow.Author.Rules.{rules}
 use Rattle.cd_rms.proofs.rms_error.Goals as goal
 
 pub returns-then-err_px-gt-MOST_ERRORS : goal.returns-then-err_px-gt-MOST_ERRORS

@@ -1,7 +1,6 @@
 -- `cd_rms::rms_of` meets its contract: no error has its own return, and the calls give what the definition names. Assumes nothing.
 use Rattle.cd_rms.specs.Rms.{rms_of}
 use borrow.Author.Tests.{eq-eqb, ne_eqb}
-use borrow.Author.Rules.{rules}
 use Rattle.cd_rms.proofs.rms_of.Goals as goal
 
 pub returns-then-n-eq0 : goal.returns-then-n-eq0

@@ -1,11 +1,8 @@
 -- `cd_rms::sum_squares` meets its contract: after i errors the sum is that of the first i. Assumes nothing.
 use Rattle.cd_rms.specs.Rms.{squares_to}
-use borrow.Author.Rules.{rules}
 use lib.ListN.{length}
-use native.Mathlib.Omega.{arith}
-use native.Mathlib.Numerals.{add-one}
 use mathlib.Core.Path.{◌≡◌}
-use Prim.Native.Nat.{◌≤◌, ◌-◌}
+use Prim.Native.Nat.{◌≤◌}
 use Rattle.cd_rms.proofs.sum_squares.Given as goal
 
 abbrev pub invariant-loop-i : goal.invariant-loop-i

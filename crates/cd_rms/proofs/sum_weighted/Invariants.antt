@@ -1,11 +1,8 @@
 -- `cd_rms::sum_weighted` meets its contract: after i errors the sums are those of the first i. Assumes nothing.
 use Rattle.cd_rms.specs.Rms.{weighted_to}
-use borrow.Author.Rules.{rules}
 use lib.ListN.{length}
-use native.Mathlib.Omega.{arith}
-use native.Mathlib.Numerals.{add-one}
 use mathlib.Core.Path.{◌≡◌}
-use Prim.Native.Nat.{◌≤◌, ◌-◌}
+use Prim.Native.Nat.{◌≤◌}
 use Rattle.cd_rms.proofs.sum_weighted.Given as goal
 
 abbrev pub invariant-loop-i : goal.invariant-loop-i

@@ -1,6 +1,5 @@
 -- `cd_rms::weighted_of` meets its contract: the test decides, and the calls give what the definition names. Assumes nothing.
 use Rattle.cd_rms.specs.Rms.{weighted_of}
-use borrow.Author.Rules.{rules}
 use Rattle.cd_rms.proofs.weighted_of.Goals as goal
 
 pub returns-then-s : goal.returns-then-s

@@ -1,6 +1,5 @@
 -- `cd_rms::weighted_rms_error` meets its contract: each test has its own return. Assumes nothing.
 use borrow.Author.Tests.{eq-eqb, ne_eqb}
-use borrow.Author.Rules.{rules}
 use Rattle.cd_rms.proofs.weighted_rms_error.Goals as goal
 
 pub returns-then-err_px-weights : goal.returns-then-err_px-weights

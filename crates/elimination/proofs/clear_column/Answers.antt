@@ -1,7 +1,6 @@
 -- `elimination::clear_column` meets its contract: the swap and then the reduction, or neither. Assumes nothing.
 use lib.Ieee.{lt}
 use borrow.Author.Tests.{not-true, not-false}
-use borrow.Author.Rules.{rules}
 use Rattle.elimination_rows.specs.Matrix.{cells}
 use Rattle.elimination.proofs.Ends.{cleared_no, cleared_yes}
 use Rattle.elimination.specs.Elimination.{least}

@@ -1,15 +1,14 @@
 -- `elimination::eliminate_in` meets its contract: the columns from col on, on what the list holds, come to the whole. Assumes nothing.
-use Prim.Native.Nat.{◌≤◌, ◌-◌, ◌*◌}
+use Prim.Native.Nat.{◌-◌}
 use mathlib.Core.Bool.{true}
 use mathlib.Core.Path.{◌≡◌, ◌∙◌, refl, sym}
 use native.Mathlib.Omega.{arith}
-use lib.ListN.{length}
 use borrow.Author.Tests.{not-true, not-false}
 use borrow.Author.Rules.{rules}
 use Rattle.elimination_rows.specs.Matrix.{cells}
 use Rattle.elimination.proofs.Ends.{ended_stop, ended_more, ended_all}
-use Rattle.elimination.proofs.Alike.{same_self, Same, own}
-use Rattle.elimination.specs.Elimination.{eliminate_from, eliminated}
+use Rattle.elimination.proofs.Alike.{same_self}
+use Rattle.elimination.specs.Elimination.{eliminated}
 use mathlib.Core.Path.{ap}
 use mathlib.Core.Bool.{not}
 use Rattle.elimination.proofs.eliminate_in.Goals as goal

@@ -1,10 +1,10 @@
 -- `elimination::row_rest` meets its contract: what is left of the sum comes to the whole. Assumes nothing.
-use Prim.Native.Nat.{◌+◌, ◌≤◌, ◌-◌}
+use Prim.Native.Nat.{◌+◌}
 use mathlib.Core.Path.{◌≡◌, ◌∙◌}
 use native.Mathlib.Nat.{add-zero}
 use native.Mathlib.Omega.{arith}
 use lib.Seq.{drop-length}
-use lib.ListN.{length, drop}
+use lib.ListN.{length}
 use borrow.Author.Rules.{rules}
 use Rattle.elimination_rows.specs.Matrix.{cells}
 use Rattle.elimination.proofs.Back.{row_more}

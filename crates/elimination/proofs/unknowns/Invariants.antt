@@ -1,13 +1,8 @@
 -- `elimination::unknowns` meets its contract: the unknowns from `left` on stand in x. Assumes nothing.
-use Prim.Native.Nat.{◌+◌, ◌≤◌, ◌-◌}
-use mathlib.Core.Path.{◌≡◌, ◌∙◌}
-use native.Mathlib.Omega.{arith}
-use lib.Seq.{take_all}
-use lib.ListN.{length-set, length-take, length-drop, drop_of_length-le, take, length, drop}
-use borrow.Author.Rules.{rules}
-use Rattle.elimination_rows.proofs.Flat.{in_row, in_cell}
+use Prim.Native.Nat.{◌≤◌, ◌-◌}
+use mathlib.Core.Path.{◌≡◌}
+use lib.ListN.{length, drop}
 use Rattle.elimination_rows.specs.Matrix.{cells}
-use Rattle.elimination.proofs.Back.{back_more, put_front}
 use Rattle.elimination.specs.Elimination.{unknowns_to}
 use Rattle.elimination.proofs.unknowns.Given as goal
 

@@ -1,5 +1,5 @@
 -- `hash_lanes::base_at` meets its contract: one below each lane of the key. Assumes nothing.
-use Rattle.std.proofs.Common.{arith, rules}
+use Rattle.std.proofs.Common.{arith}
 use Rattle.hash_lanes.proofs.Number.{base_is}
 use Rattle.hash_lanes.proofs.base_at.Goals as goal
 

@@ -1,6 +1,5 @@
 -- `hash_lanes::fill_lanes` meets its contract: the quads before j have their lanes. Assumes nothing.
-use Rattle.std.proofs.Common.{◌≡◌, ◌-◌, ◌≤◌, length, arith, rules}
-use Rattle.hash_lanes.specs.Lanes.{Laned}
+use Rattle.std.proofs.Common.{◌≡◌, arith}
 use Rattle.hash_lanes.proofs.Stored.{laned_none, laned_more}
 use Rattle.hash_lanes.proofs.fill_lanes.Goals as goal
 

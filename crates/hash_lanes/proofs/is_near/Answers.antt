@@ -1,5 +1,4 @@
 -- `hash_lanes::is_near` meets its contract: each lane by what `near_lane` ensures. Assumes nothing.
-use Rattle.std.proofs.Common.{rules}
 use Rattle.hash_lanes.specs.Lanes.{near_at}
 use Rattle.hash_lanes.proofs.is_near.Goals as goal
 

@@ -1,5 +1,5 @@
 -- `hash_lanes::near_lane` meets its contract: the wrapped difference is how far x is above b. Assumes nothing.
-use Rattle.std.proofs.Common.{◌≡◌, ℕ, ltb, ap, arith, rules}
+use Rattle.std.proofs.Common.{◌≡◌, ℕ, ltb, ap, arith}
 use Rattle.hash_lanes.specs.Lanes.{above}
 use Rattle.hash_lanes.proofs.near_lane.Goals as goal
 

@@ -1,5 +1,5 @@
 -- `hash_lanes::put_lanes` meets its contract: four stores, each with its length kept. Assumes nothing.
-use Rattle.std.proofs.Common.{arith, length-set, rules}
+use Rattle.std.proofs.Common.{arith, length-set}
 use Rattle.hash_lanes.proofs.put_lanes.Goals as goal
 
 pub bounds-lanes-j-2 : goal.bounds-lanes-j-2

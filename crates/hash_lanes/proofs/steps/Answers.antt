@@ -1,5 +1,4 @@
 -- `hash_lanes::steps` meets its contract: each step by what `step` ensures. Assumes nothing.
-use Rattle.std.proofs.Common.{rules}
 use Rattle.hash_lanes.specs.Lanes.{steps_at}
 use Rattle.hash_lanes.proofs.steps.Goals as goal
 

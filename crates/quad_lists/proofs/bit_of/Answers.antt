@@ -1,7 +1,6 @@
 -- `quad_lists::bit_of` meets its contract. Assumes nothing.
 use native.Mathlib.Omega.{arith}
 use Rattle.quad_lists.proofs.Bits.{no_bit, one_bit}
-use borrow.Author.Rules.{rules}
 use Rattle.quad_lists.proofs.bit_of.Goals as goal
 
 pub returns-then-q-from : goal.returns-then-q-from

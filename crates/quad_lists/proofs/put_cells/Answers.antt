@@ -1,13 +1,11 @@
 -- `quad_lists::put_cells` meets its contract. Assumes nothing.
-use Prim.Native.Nat.{ℕ, ◌-◌, ◌≤◌, ◌<◌}
-use mathlib.Core.Path.{◌≡◌, ◌∙◌, sym}
+use Prim.Native.Nat.{ℕ}
+use mathlib.Core.Path.{◌∙◌, sym}
 use mathlib.Core.Bool.{Bool}
 use native.Mathlib.Omega.{arith}
 use lib.ListN.{length, get_or}
-use Rattle.quad_visit.specs.Ranks.{cell}
 use Rattle.quad_lists.specs.Lists.{cell_in}
 use Rattle.quad_lists.proofs.Cells.{table_more}
-use borrow.Author.Rules.{rules}
 use Rattle.quad_lists.proofs.put_cells.Goals as goal
 
 pub loop-a-init : goal.loop-a-init

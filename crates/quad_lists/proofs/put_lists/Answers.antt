@@ -1,10 +1,9 @@
 -- `quad_lists::put_lists` meets its contract. Assumes nothing.
-use Prim.Native.Nat.{ℕ, ◌-◌, ◌≤◌, ◌<◌, min}
-use mathlib.Core.Path.{◌≡◌, ◌∙◌, sym}
+use Prim.Native.Nat.{◌-◌, min}
+use mathlib.Core.Path.{◌∙◌, sym}
 use native.Mathlib.Omega.{arith}
 use lib.ListN.{length}
-use Rattle.quad_lists.proofs.Rows.{Put, put_more, all_put}
-use borrow.Author.Rules.{rules}
+use Rattle.quad_lists.proofs.Rows.{put_more, all_put}
 use Rattle.quad_lists.proofs.put_lists.Goals as goal
 
 pub loop-p-init : goal.loop-p-init

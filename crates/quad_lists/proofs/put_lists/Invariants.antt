@@ -1,10 +1,8 @@
 -- `quad_lists::put_lists` meets its contract. Assumes nothing.
 use Prim.Native.Nat.{ℕ, ◌-◌, ◌≤◌, ◌<◌, min}
-use mathlib.Core.Path.{◌≡◌, ◌∙◌, sym}
-use native.Mathlib.Omega.{arith}
+use mathlib.Core.Path.{◌≡◌}
 use lib.ListN.{length}
-use Rattle.quad_lists.proofs.Rows.{Put, put_more, all_put}
-use borrow.Author.Rules.{rules}
+use Rattle.quad_lists.proofs.Rows.{Put}
 use Rattle.quad_lists.proofs.put_lists.Given as goal
 
 abbrev pub invariant-loop-p : goal.invariant-loop-p

@@ -1,11 +1,10 @@
 -- `quad_lists::put_row` meets its contract. Assumes nothing.
-use Prim.Native.Nat.{ℕ, ◌-◌, ◌≤◌}
+use Prim.Native.Nat.{ℕ}
 use mathlib.Core.Bool.{◌&&◌}
 use native.Mathlib.Omega.{arith}
-use lib.ListN.{length, get_or}
+use lib.ListN.{get_or}
 use Rattle.quad_lists.specs.Lists.{bit_at}
-use Rattle.quad_lists.proofs.Cells.{Row, row_start, row_step}
-use borrow.Author.Rules.{rules}
+use Rattle.quad_lists.proofs.Cells.{row_start, row_step}
 use Rattle.quad_lists.proofs.put_row.Goals as goal
 
 pub loop-b-init : goal.loop-b-init

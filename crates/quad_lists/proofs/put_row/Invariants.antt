@@ -1,11 +1,9 @@
 -- `quad_lists::put_row` meets its contract. Assumes nothing.
 use Prim.Native.Nat.{ℕ, ◌-◌, ◌≤◌}
 use mathlib.Core.Bool.{◌&&◌}
-use native.Mathlib.Omega.{arith}
 use lib.ListN.{length, get_or}
 use Rattle.quad_lists.specs.Lists.{bit_at}
-use Rattle.quad_lists.proofs.Cells.{Row, row_start, row_step}
-use borrow.Author.Rules.{rules}
+use Rattle.quad_lists.proofs.Cells.{Row}
 use Rattle.quad_lists.proofs.put_row.Given as goal
 
 abbrev pub invariant-loop-b : goal.invariant-loop-b

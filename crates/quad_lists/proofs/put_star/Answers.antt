@@ -4,7 +4,6 @@ use mathlib.Core.Path.{◌∙◌}
 use native.Mathlib.Omega.{arith}
 use lib.ListN.{length-take, length-drop}
 use Rattle.quad_lists.proofs.Rows.{star_put}
-use borrow.Author.Rules.{rules}
 use Rattle.quad_lists.proofs.put_star.Goals as goal
 
 pub returns : goal.returns

@@ -2,7 +2,6 @@
 use native.Mathlib.Omega.{arith}
 use lib.ListN.{length-set}
 use Rattle.quad_lists.proofs.Bits.{words_put, words_kept}
-use borrow.Author.Rules.{rules}
 use Rattle.quad_lists.proofs.put_words.Goals as goal
 
 pub bounds-words-p-2 : goal.bounds-words-p-2

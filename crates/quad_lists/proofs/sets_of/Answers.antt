@@ -4,7 +4,6 @@ use mathlib.Core.Path.{◌∙◌, refl}
 use native.Mathlib.Omega.{arith}
 use Rattle.quad_lists.proofs.Rows.{part_is, few_row}
 use Rattle.quad_lists.proofs.Cells.{near_below, table_is, seed_sets}
-use borrow.Author.Rules.{rules}
 use Rattle.quad_lists.proofs.sets_of.Goals as goal
 
 pub put_cells-requires : goal.put_cells-requires

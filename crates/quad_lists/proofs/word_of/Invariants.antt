@@ -1,14 +1,10 @@
 -- `quad_lists::word_of` meets its contract. Assumes nothing.
-use Prim.Native.Nat.{ℕ, ◌+◌, ◌-◌, ◌≤◌, ◌<◌}
-use mathlib.Core.Path.{◌≡◌, ◌∙◌, refl}
+use Prim.Native.Nat.{ℕ, ◌+◌, ◌≤◌, ◌<◌}
+use mathlib.Core.Path.{◌≡◌}
 use mathlib.Core.Bool.{◌||◌}
-use native.Mathlib.Omega.{arith}
 use lib.ListN.{length, drop}
 use Rattle.quad_visit.specs.Visit.{memb}
 use Rattle.quad_lists.specs.Lists.{bit}
-use Rattle.quad_lists.proofs.Bits.{bit_zero, bit_or_lem}
-use Rattle.quad_lists.proofs.Rows.{memb_on, memb_end}
-use borrow.Author.Rules.{rules}
 use Rattle.quad_lists.proofs.word_of.Given as goal
 
 abbrev pub invariant-loop-i : goal.invariant-loop-i

@@ -1,6 +1,5 @@
 -- `quad_stars::check_four` meets its contract: the first answer that refuses is handed on. Assumes nothing.
 use Rattle.quad_stars.specs.Stars.{four_answer}
-use borrow.Author.Rules.{rules}
 use Rattle.quad_stars.proofs.check_four.Goals as goal
 
 pub returns-in-Refused : goal.returns-in-Refused

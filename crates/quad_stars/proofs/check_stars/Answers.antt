@@ -1,7 +1,6 @@
 -- `quad_stars::check_stars` meets its contract: each return stands for the tests that led there. Assumes nothing.
 use borrow.Author.Tests.{lt-ltb, le-ltb, eq-eqb, ne_eqb, not-true, not-false}
 use Rattle.quad_stars.specs.Stars.{stars_answer}
-use borrow.Author.Rules.{rules}
 use mathlib.Core.Path.{ap}
 use mathlib.Core.Bool.{not}
 use Rattle.quad_stars.proofs.check_stars.Goals as goal

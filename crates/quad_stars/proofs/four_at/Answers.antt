@@ -1,6 +1,5 @@
 -- `quad_stars::four_at` meets its contract: the calls give what the definition names. Assumes nothing.
 use Rattle.quad_stars.specs.Stars.{four_at}
-use borrow.Author.Rules.{rules}
 use Rattle.quad_stars.proofs.four_at.Goals as goal
 
 pub returns : goal.returns

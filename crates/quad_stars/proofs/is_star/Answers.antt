@@ -1,6 +1,5 @@
 -- `quad_stars::is_star` meets its contract: the calls give what the definition names. Assumes nothing.
 use Rattle.quad_stars.specs.Stars.{is_star}
-use borrow.Author.Rules.{rules}
 use Rattle.quad_stars.proofs.is_star.Goals as goal
 
 pub returns : goal.returns

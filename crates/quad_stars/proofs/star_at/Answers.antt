@@ -1,6 +1,5 @@
 -- `quad_stars::star_at` meets its contract: the calls give what the definition names. Assumes nothing.
 use Rattle.quad_stars.specs.Stars.{star_at}
-use borrow.Author.Rules.{rules}
 use Rattle.quad_stars.proofs.star_at.Goals as goal
 
 pub returns : goal.returns

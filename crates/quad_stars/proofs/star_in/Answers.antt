@@ -1,7 +1,6 @@
 -- `quad_stars::star_in` meets its contract. Assumes nothing.
 use mathlib.Core.Path.{refl}
 use Rattle.quad_stars.specs.Stars.{star_at}
-use borrow.Author.Rules.{rules}
 use Rattle.quad_stars.proofs.star_in.Goals as goal
 
 pub returns : goal.returns

@@ -1,6 +1,5 @@
 -- `rows::check_rows` meets its contract: each test has its own return. Assumes nothing.
 use Rattle.rows.specs.Rows.{rows_answer}
-use borrow.Author.Rules.{rules}
 use mathlib.Core.Path.{ap}
 use mathlib.Core.Bool.{not}
 use Rattle.rows.proofs.check_rows.Goals as goal

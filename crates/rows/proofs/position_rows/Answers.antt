@@ -1,5 +1,4 @@
 -- `rows::position_rows` meets its contract: the four lists are tested one by one. Assumes nothing.
-use borrow.Author.Rules.{rules}
 use Rattle.rows.specs.Rows.{position_rows}
 use Rattle.rows.proofs.position_rows.Goals as goal
 

@@ -1,9 +1,6 @@
 -- `scan_digits::more_decimal` meets its contract: the loop's invariant: reading on from here comes to the same as reading from the start.
 use native.Mathlib.Omega.{arith}
-use mathlib.Core.Path.{◌≡◌, refl, ◌∙◌}
-use Prim.Native.Nat.{◌-◌, ◌≤◌}
-use lib.ListN.{length, drop}
-use Rattle.scan_digits.specs.Read.{more_decimal}
+use mathlib.Core.Path.{refl, ◌∙◌}
 use Rattle.scan_digits.proofs.Reading.{decimal_next, decimal_stop, decimal_end}
 use Rattle.scan_digits.proofs.more_decimal.Goals as goal
 

@@ -1,7 +1,6 @@
 -- `scan_digits::of_bits` meets its contract: the two tests of `nan_bits`, in its own words.
 use lib.Ieee.{div, of_bits}
 use Rattle.scan_digits.proofs.Reading.{bits_plain, bits_whole, bits_nan}
-use borrow.Author.Rules.{rules}
 use Rattle.scan_digits.proofs.of_bits.Goals as goal
 
 pub float_from_bits-result : goal.float_from_bits-result

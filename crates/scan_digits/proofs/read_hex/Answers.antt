@@ -1,10 +1,7 @@
 -- `scan_digits::read_hex` meets its contract: the loop's invariant: reading on from here comes to the same as reading from the start.
 use native.Mathlib.Omega.{arith}
-use mathlib.Core.Path.{◌≡◌, refl, ◌∙◌}
-use Prim.Native.Nat.{◌-◌, ◌*◌, ◌^◌, ◌≤◌, ◌<◌}
-use lib.ListN.{drop}
+use mathlib.Core.Path.{refl, ◌∙◌}
 use lib.Dec.{lit<}
-use Rattle.scan_digits.specs.Read.{read_hex}
 use Rattle.scan_digits.proofs.Reading.{hex_more, hex_short, hex_wrong, hex_done, hex_grow, hex_fits}
 use Rattle.scan_digits.proofs.read_hex.Goals as goal
 

@@ -1,11 +1,8 @@
 -- `scan_digits::read_hex` meets its contract: the loop's invariant: reading on from here comes to the same as reading from the start.
-use native.Mathlib.Omega.{arith}
-use mathlib.Core.Path.{◌≡◌, refl, ◌∙◌}
+use mathlib.Core.Path.{◌≡◌}
 use Prim.Native.Nat.{◌-◌, ◌*◌, ◌^◌, ◌≤◌, ◌<◌}
 use lib.ListN.{drop}
-use lib.Dec.{lit<}
 use Rattle.scan_digits.specs.Read.{read_hex}
-use Rattle.scan_digits.proofs.Reading.{hex_more, hex_short, hex_wrong, hex_done, hex_grow, hex_fits}
 use Rattle.scan_digits.proofs.read_hex.Given as goal
 
 abbrev pub invariant-loop-i : goal.invariant-loop-i

@@ -1,6 +1,5 @@
 -- `scan_fields::decimal_field` meets its contract: each way out is that of the definition, which reads the same in the same order.
 use Rattle.scan_fields.specs.Fields.{decimal_field}
-use borrow.Author.Rules.{rules}
 use Rattle.scan_fields.proofs.decimal_field.Goals as goal
 
 pub returns-in-Not : goal.returns-in-Not

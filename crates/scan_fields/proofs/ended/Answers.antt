@@ -1,5 +1,4 @@
 -- `scan_fields::ended` meets its contract: what is read after the number decides.
-use borrow.Author.Rules.{rules}
 use Rattle.scan_fields.proofs.ended.Goals as goal
 
 pub returns-in-Not : goal.returns-in-Not
