@@ -1,4 +1,6 @@
 // `solve_normal_equations`: a square system of up to 54 unknowns, on every float.
+#![tactic(auto)]
+
 ghost use Rattle.std.specs.Prelude.{◌≡◌, [], ◌∷◌, ◌++◌, ◌+◌, ◌*◌, ◌≤◌, length};
 ghost use Rattle.answer.specs.Answers.{lent_after};
 ghost use Rattle.elimination_rows.specs.Holds.{Holds};
