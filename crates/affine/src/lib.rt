@@ -1,4 +1,6 @@
 // The affine of three rows, and how many rows agree with an affine.
+#![tactic(auto)]
+
 ghost use Rattle.std.specs.Prelude.{◌≡◌, cond, length};
 ghost use Rattle.rows.specs.Rows.{rows};
 ghost use Rattle.affine.specs.Affine.{area_of, affine_of, fit_of, fit_number, determinant_of, inverse_of, is_near, near_rows, agreeing};

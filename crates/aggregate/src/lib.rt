@@ -1,4 +1,6 @@
 // Pairs of a detection and a catalogue position, by the votes of matches: aggregate.rs of the Rust.
+#![tactic(auto)]
+
 ghost use Rattle.std.specs.Prelude.{◌≡◌, ◌≤◌, length};
 ghost use Rattle.answer.specs.Answers.{lent_after};
 ghost use Rattle.aggregate.specs.Extract.{given, room, few, even, inside, input_answer, room_answer, vote_pairs, pairs_answer, pairs_number, answer_of};

@@ -1,4 +1,6 @@
 // The weighted clip: rounds that turn far rows off and fit the others anew.
+#![tactic(auto)]
+
 ghost use Rattle.std.specs.Prelude.{◌≡◌, length};
 ghost use Rattle.rows.specs.Rows.{rows};
 ghost use Rattle.cd_round.specs.Round.{roots_of};

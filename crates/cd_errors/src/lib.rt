@@ -1,4 +1,6 @@
 // The pixel errors of rows under a CD plate.
+#![tactic(auto)]
+
 ghost use Rattle.std.specs.Prelude.{◌≡◌, length};
 ghost use Rattle.answer.specs.Answers.{lent_after};
 ghost use Rattle.rows.specs.Rows.{rows};

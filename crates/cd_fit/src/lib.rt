@@ -1,4 +1,6 @@
 // The fits of a CD plate to the rows that are on, plain and weighted.
+#![tactic(auto)]
+
 ghost use Rattle.std.specs.Prelude.{◌≡◌, length};
 ghost use Rattle.rows.specs.Rows.{rows};
 ghost use Rattle.elimination_rows.specs.Matrix.{cells};

@@ -1,4 +1,6 @@
 // Which rows are near: those whose error under a CD plate is at most a limit, told by the squared error.
+#![tactic(auto)]
+
 ghost use Rattle.std.specs.Prelude.{◌≡◌, true, false, ◌+◌, ◌≤◌, ◌<◌, length};
 ghost use Rattle.std.specs.Float.Ieee.{le};
 ghost use Rattle.answer.specs.Answers.{written};

@@ -1,4 +1,6 @@
 // A CD plate: six numbers, their inverse, and the error of a row; and what the calls ask of rows with a mask.
+#![tactic(auto)]
+
 ghost use Rattle.std.specs.Prelude.{◌≡◌, cond, ◌≤◌, length};
 ghost use Rattle.answer.specs.Answers.{room_for, written, lent_after};
 ghost use Rattle.rows.specs.Rows.{rows};

@@ -1,4 +1,6 @@
 // The residuals of rows in degrees under a WCS.
+#![tactic(auto)]
+
 ghost use Rattle.std.specs.Prelude.{◌≡◌, ◌≤◌, length};
 ghost use Rattle.answer.specs.Answers.{written, lent_after};
 ghost use Rattle.rows.specs.Rows.{rows};

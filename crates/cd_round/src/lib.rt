@@ -1,4 +1,6 @@
 // A round of the weighted clip at one row: its square in the sum, whether it is rejected, and the byte that is left.
+#![tactic(auto)]
+
 ghost use Rattle.std.specs.Prelude.{◌≡◌, cond, ◌&&◌, ◌≤◌, length};
 ghost use Rattle.std.specs.Float.Ieee.{lt};
 ghost use Rattle.answer.specs.Answers.{written};

@@ -1,4 +1,6 @@
 // The sums of a CD fit over the rows that are on, for both axes in one pass.
+#![tactic(auto)]
+
 ghost use Rattle.std.specs.Prelude.{◌≡◌, length};
 ghost use Rattle.rows.specs.Rows.{rows};
 ghost use Rattle.cd_sums.specs.Sums.{xi_of, eta_of, no_rows, with_row, with_weighted, step_if, three_sums, plain_sums, weighted_sums};

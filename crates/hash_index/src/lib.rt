@@ -1,4 +1,6 @@
 // The matches of image quads with catalogue quads: what an index of the catalogue's keys would give.
+#![tactic(auto)]
+
 ghost use Rattle.std.specs.Prelude.{◌≡◌, ◌+◌, ◌≤◌, length};
 ghost use Rattle.std.proofs.lemmas.List.Edits.{sets};
 ghost use Rattle.hash_near.specs.Over.{over};

@@ -1,4 +1,6 @@
 // The quads that are near to a hash: how many of them there are, and which.
+#![tactic(auto)]
+
 ghost use Rattle.std.specs.Prelude.{◌≡◌, ◌++◌, ◌+◌, ◌-◌, ◌≤◌, ◌<◌, length, take};
 ghost use Rattle.hash_near.specs.Near.{near_one, near_from, end_of};
 

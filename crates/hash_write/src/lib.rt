@@ -1,4 +1,6 @@
 // Writes the matches of an image quad with the catalogue quads that are near to it.
+#![tactic(auto)]
+
 ghost use Rattle.std.specs.Prelude.{◌≡◌, ◌+◌, ◌*◌, ◌≤◌, ◌<◌, length, get_or, take};
 ghost use Rattle.std.proofs.lemmas.List.Edits.{sets};
 ghost use Rattle.hash_write.specs.Write.{places_at, eight, pick, of_number, by_number};

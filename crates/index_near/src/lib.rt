@@ -1,4 +1,6 @@
 // The catalogue quads near to an image quad, found in the table of their keys.
+#![tactic(auto)]
+
 ghost use Rattle.std.specs.Prelude.{◌≡◌, ℕ, ◌+◌, ◌-◌, ◌*◌, ◌^◌, ◌<◌, ◌≤◌, ◌&&◌, ltb, ◌++◌, length, take, if◌then◌else◌, nat_le, nat_lt, slice_index};
 ghost use Rattle.quad_key.specs.Key.{neighbour_keys};
 ghost use Rattle.hash_near.specs.Over.{over};

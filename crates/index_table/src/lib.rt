@@ -1,4 +1,6 @@
 // The index of a catalogue list: what its table is, and whether a list is it.
+#![tactic(auto)]
+
 ghost use Rattle.std.specs.Prelude.{◌≡◌, true, false, cond, ℕ, ◌+◌, ◌*◌, ◌<◌, ◌≤◌, length};
 ghost use Rattle.index_table.specs.Table.{turned, quad_key, belongs};
 ghost use Rattle.index_table.specs.Steps.{own_at, rises_at};

@@ -1,4 +1,6 @@
 // The quads of a list of stars: each set of four near stars, once.
+#![tactic(auto)]
+
 ghost use Rattle.std.specs.Prelude.{◌≡◌, cond, ◌+◌, ◌<◌, ◌≤◌, min, leb, length, take};
 ghost use Rattle.std.proofs.lemmas.List.Edits.{sets};
 ghost use Rattle.quad_near.specs.Kept.{FiniteStars};

@@ -12,7 +12,7 @@ use Rattle.domain.specs.Domain.{is_mask_byte}
 use Rattle.quad_combinations.specs.declared.State.{State}
 use Rattle.quad_combinations.specs.declared.Step.{Step}
 use Rattle.quad_combinations.specs.declared.Step.TheVariants as step
-use Rattle.quad_combinations.specs.Combinations.{four, first_of, start_of, step_of}
+use Rattle.quad_combinations.specs.Combinations.{first_of, start_of, step_of}
 use Rattle.quad_combinations.specs.All.{sets_below, given_by, run, left_by, state_after}
 use Rattle.quad_combinations.proofs.Laws.{all_given}
 use Rattle.quad_face.specs.Face.{state_bytes, start_face, start_written, state_in, step_done, step_bytes, step_from, next_face}

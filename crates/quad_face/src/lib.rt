@@ -1,4 +1,6 @@
 // The quad calls for C, but for the spine's: each answers its number, and writes its result into lent lists.
+#![tactic(auto)]
+
 ghost use Rattle.std.specs.Prelude.{◌≡◌, cond, ◌≤◌, length};
 ghost use Rattle.answer.specs.Answers.{answer_number, room_for, lent_after, number_after};
 ghost use Rattle.quad_key.specs.Key.{key_of, neighbour_keys, keys_answer};

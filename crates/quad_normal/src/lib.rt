@@ -1,4 +1,6 @@
 // The hash of a quad: where its other two stars lie by its spine.
+#![tactic(auto)]
+
 ghost use Rattle.std.specs.Prelude.{◌≡◌};
 ghost use Rattle.quad_normal.specs.Normal.{along, across, c_first, hash_of, scaled_by, scaled_answer, normal_answer, normal_number};
 

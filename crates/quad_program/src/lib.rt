@@ -1,4 +1,6 @@
 // The quad program over slices: a text is read, its quads are found, and their text is written.
+#![tactic(auto)]
+
 ghost use Rattle.std.specs.Prelude.{◌≡◌, ◌+◌, ◌*◌, ◌≤◌, length, take, drop};
 ghost use Rattle.put.specs.Put.{Put, Room};
 ghost use Rattle.scan.specs.Read.{read_bytes};

@@ -1,4 +1,6 @@
 // The formats of a record: what sets one apart from the others, and the sign of the numbers in its distortion lines.
+#![tactic(auto)]
+
 ghost use Rattle.std.specs.Prelude.{◌≡◌};
 ghost use Rattle.record_format.specs.Formats.{format_of, held_by, solved_by};
 

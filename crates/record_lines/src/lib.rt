@@ -1,4 +1,6 @@
 // The lines of a record, put into lent bytes at a place. Each function returns the place after its text.
+#![tactic(auto)]
+
 ghost use Rattle.std.specs.Prelude.{◌≡◌, map, ◌+◌, ◌<◌, ◌≤◌, length};
 ghost use Rattle.put.specs.Put.{Put, Room};
 ghost use Rattle.sip_terms.specs.Terms.{first_term};

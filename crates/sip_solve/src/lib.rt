@@ -1,4 +1,6 @@
 // Both solves of a SIP fit over the rows that are on: one elimination with two right sides, and the coefficients that are kept.
+#![tactic(auto)]
+
 ghost use Rattle.std.specs.Prelude.{◌≡◌, ◌+◌, ◌*◌, ◌≤◌, ◌<◌, length, replicate};
 ghost use Rattle.cd_plate.specs.Plate.{nothing};
 ghost use Rattle.elimination_rows.specs.Matrix.{cells};

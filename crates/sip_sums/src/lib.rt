@@ -1,4 +1,6 @@
 // The rows of a SIP fit, and the sums of its normal equations over the rows that are on, for both axes in one pass.
+#![tactic(auto)]
+
 ghost use Rattle.std.specs.Prelude.{◌≡◌, ◌+◌, ◌*◌, ◌≤◌, ◌<◌, length, replicate};
 ghost use Rattle.rows.specs.Rows.{rows};
 ghost use Rattle.cd_plate.specs.Plate.{nothing};

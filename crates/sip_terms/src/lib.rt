@@ -1,4 +1,6 @@
 // The terms of a SIP polynomial, u^p v^q of total degree 2 up to the order, the power of u falling; and which coefficients are kept.
+#![tactic(auto)]
+
 ghost use Rattle.std.specs.Prelude.{◌≡◌, ◌+◌, ◌<◌, ◌≤◌, length};
 ghost use Rattle.answer.specs.Answers.{written};
 ghost use Rattle.cd_plate.specs.Filled.{filled};

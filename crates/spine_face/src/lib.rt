@@ -1,4 +1,6 @@
 // The spine calls for C: each answers its number, and writes its result into lent lists.
+#![tactic(auto)]
+
 ghost use Rattle.std.specs.Prelude.{◌≡◌, [], ◌∷◌, ◌≤◌, length};
 ghost use Rattle.answer.specs.Answers.{answer_number, room_for, written, lent_after};
 ghost use Rattle.spine_face.specs.Face.{spine_face, spine_written, star, orient_face, orient_written, quad_room};

@@ -1,4 +1,6 @@
 // The calls on affines: the fit of three rows, and the count of the rows that agree with one.
+#![tactic(auto)]
+
 ghost use Rattle.std.specs.Prelude.{◌≡◌, length};
 ghost use Rattle.rows.specs.Rows.{rows, row_at};
 ghost use Rattle.affine.specs.Affine.{fit_of};

@@ -1,4 +1,6 @@
 // A WCS over projected points: a reference pixel, and the factors from pixels to degrees.
+#![tactic(auto)]
+
 ghost use Rattle.std.specs.Prelude.{◌≡◌, ◌≤◌, length};
 ghost use Rattle.answer.specs.Answers.{written};
 ghost use Rattle.wcs.specs.Wcs.{wcs_in, wcs_numbers, plate_of, is_wcs};

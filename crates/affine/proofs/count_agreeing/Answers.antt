@@ -1,6 +1,5 @@
 -- `affine::count_agreeing` meets its contract: the test decides, then the calls give what the definition names. Assumes nothing.
 use Rattle.affine.specs.Affine.{agreeing}
-use borrow.Author.Rules.{rules}
 use Rattle.affine.proofs.count_agreeing.Goals as goal
 
 pub returns-then-magnitude : goal.returns-then-magnitude

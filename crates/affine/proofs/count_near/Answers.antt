@@ -1,12 +1,10 @@
 -- `affine::count_near` meets its contract: after i rows the count is that of the first i. Assumes nothing.
 use Rattle.affine.proofs.Laws.{one_at_most}
 use Rattle.affine.specs.Affine.{near_rows}
-use Rattle.rows.specs.Rows.{rows}
 use lib.ListN.{length}
 use native.Mathlib.Omega.{arith}
 use native.Mathlib.Numerals.{add-one}
 use mathlib.Core.Path.{◌≡◌}
-use Prim.Native.Nat.{◌≤◌, ◌-◌}
 use borrow.Author.Rules.{rules}
 use Rattle.affine.proofs.count_near.Goals as goal
 

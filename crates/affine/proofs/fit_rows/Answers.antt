@@ -1,6 +1,5 @@
 -- `affine::fit_rows` meets its contract: the test decides, then the calls give what the definition names. Assumes nothing.
 use Rattle.affine.specs.Affine.{fit_of}
-use borrow.Author.Rules.{rules}
 use Rattle.affine.proofs.fit_rows.Goals as goal
 
 pub returns-then-magnitude : goal.returns-then-magnitude

@@ -2,7 +2,6 @@
 use Rattle.aggregate.specs.Extract.{input_answer}
 use borrow.Author.Tests.{not-true, not-false}
 use mathlib.Core.Path.{◌∙◌, sym}
-use borrow.Author.Rules.{rules}
 use mathlib.Core.Path.{ap}
 use mathlib.Core.Bool.{not}
 use Rattle.aggregate.proofs.check_input.Goals as goal

@@ -2,7 +2,6 @@
 use Rattle.aggregate.proofs.Answer.{within}
 use Rattle.aggregate.specs.Extract.{pairs_answer, vote_pairs}
 use mathlib.Core.Path.{◌∙◌, refl, sym}
-use borrow.Author.Rules.{rules}
 use Rattle.aggregate.proofs.extract_pairs.Goals as goal
 
 pub put_pairs-requires : goal.put_pairs-requires

@@ -1,6 +1,5 @@
 -- `aggregate::is_inside` meets its contract. Assumes nothing.
 use Rattle.aggregate.specs.Extract.{inside}
-use borrow.Author.Rules.{rules}
 use Rattle.aggregate.proofs.is_inside.Goals as goal
 
 pub returns : goal.returns

@@ -7,7 +7,6 @@ use lib.Ieee.{nan}
 use lib.ListN.{length, get_or}
 use native.Mathlib.Omega.{arith}
 use mathlib.Core.Path.{◌∙◌, refl, sym, ap}
-use borrow.Author.Rules.{rules}
 use Rattle.aggregate.proofs.put_pairs.Goals as goal
 
 pub returns-then-pick : goal.returns-then-pick

@@ -1,6 +1,5 @@
 -- `cd_clip::check_clip` meets its contract: each test has its own return. Assumes nothing.
 use Rattle.cd_clip.specs.Clip.{clip_tests}
-use borrow.Author.Rules.{rules}
 use Rattle.cd_clip.proofs.check_clip.Goals as goal
 
 pub returns-then-is_finite : goal.returns-then-is_finite

@@ -1,23 +1,10 @@
 -- `cd_clip::clip_rounds` meets its contract: with the rounds that are to come, each round comes to the whole clip; its two loops go over the rows as `Loops` says. Assumes nothing.
-use mathlib.Core.List.{List}
-use mathlib.Core.Path.{◌≡◌, refl, sym, ap, ◌∙◌}
-use Prim.Native.Nat.{ℕ, suc, ◌+◌, ◌-◌, ◌≤◌}
-use native.Mathlib.Omega.{arith}
-use borrow.Author.Rules.{rules}
-use borrow.Author.Tests.{not-true, not-false}
-use lib.Dec.{eqb}
-use lib.ListN.{length, get_or}
-use lib.Ieee.{Float}
-use Rattle.rows.specs.Rows.{Rows, rows, count}
-use Rattle.cd_plate.specs.declared.Cd.{Cd}
-use Rattle.cd_plate.proofs.Filling.{filled_length}
-use Rattle.cd_mask.specs.Marks.{ones}
-use Rattle.cd_mask.proofs.Marking.{byte_small}
-use Rattle.cd_round.specs.Round.{root_at}
+use mathlib.Core.Path.{◌≡◌}
+use Prim.Native.Nat.{◌-◌, ◌≤◌}
+use lib.ListN.{length}
+use Rattle.rows.specs.Rows.{rows}
 use Rattle.cd_clip.specs.Clip.{clip_from}
-use Rattle.cd_clip.proofs.Loops.{Summed, sum_none, sum_next, all_on, Sifted, sift_none, sift_next, left_few}
-use Rattle.cd_clip.proofs.Rounds.{Parts, parts_of, few_on, none_rejected, few_left, goes_on, stopped}
-use Rattle.cd_clip.proofs.Passed.{masked}
+use Rattle.cd_clip.proofs.Loops.{Summed, Sifted}
 use Rattle.cd_clip.proofs.clip_rounds.Given as goal
 
 abbrev pub invariant-loop-i : goal.invariant-loop-i

@@ -3,7 +3,6 @@ use Rattle.cd_clip.proofs.Rounds.{roots_front}
 use lib.Seq.{length-take-le}
 use mathlib.Core.Path.{sym}
 use native.Mathlib.Omega.{arith}
-use borrow.Author.Rules.{rules}
 use Rattle.cd_clip.proofs.clip_rows.Goals as goal
 
 pub slice_bounds-clip_rounds-end : goal.slice_bounds-clip_rounds-end

@@ -1,7 +1,6 @@
 -- `cd_clip::refit` meets its contract: the sums of both axes are solved as those of each. Assumes nothing.
 use Rattle.cd_fit.proofs.Axes.{fit_both}
 use mathlib.Core.Path.{◌∙◌}
-use borrow.Author.Rules.{rules}
 use Rattle.cd_clip.proofs.refit.Goals as goal
 
 pub sum_weighted-requires : goal.sum_weighted-requires

@@ -2,7 +2,6 @@
 use Rattle.cd_clip.proofs.Passed.{checked}
 use Rattle.cd_clip.specs.Clip.{Ended}
 use mathlib.Core.Path.{◌∙◌, sym, ap, refl}
-use borrow.Author.Rules.{rules}
 use Rattle.cd_clip.proofs.sigma_clip_loop_weighted.Goals as goal
 
 pub clip_rows-requires : goal.clip_rows-requires

@@ -1,6 +1,5 @@
 -- `cd_errors::check_errors` meets its contract: each test has its own return. Assumes nothing.
 use Rattle.cd_errors.specs.Errors.{errors_answer}
-use borrow.Author.Rules.{rules}
 use mathlib.Core.Path.{ap}
 use mathlib.Core.Bool.{not}
 use Rattle.cd_errors.proofs.check_errors.Goals as goal

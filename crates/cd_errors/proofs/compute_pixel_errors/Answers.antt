@@ -1,7 +1,6 @@
 -- `cd_errors::compute_pixel_errors` meets its contract: a refusal keeps the list, and rows that passed the tests have the room for their errors. Assumes nothing.
 use Rattle.cd_errors.proofs.Passed.{checked}
 use mathlib.Core.Path.{◌∙◌, refl, sym}
-use borrow.Author.Rules.{rules}
 use Rattle.cd_errors.proofs.compute_pixel_errors.Goals as goal
 
 pub put_errors-requires : goal.put_errors-requires

@@ -1,6 +1,5 @@
 -- `cd_fit::check_weighed` meets its contract: each test has its own return. Assumes nothing.
 use Rattle.cd_fit.specs.Fit.{weighed_answer}
-use borrow.Author.Rules.{rules}
 use mathlib.Core.Path.{ap}
 use mathlib.Core.Bool.{not}
 use Rattle.cd_fit.proofs.check_weighed.Goals as goal

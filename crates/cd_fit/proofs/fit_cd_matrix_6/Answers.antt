@@ -2,7 +2,6 @@
 use Rattle.cd_fit.proofs.Passed.{masked}
 use Rattle.cd_fit.proofs.Axes.{fit_both}
 use mathlib.Core.Path.{◌∙◌, sym}
-use borrow.Author.Rules.{rules}
 use Rattle.cd_fit.proofs.fit_cd_matrix_6.Goals as goal
 
 pub sum_rows-requires : goal.sum_rows-requires

@@ -2,7 +2,6 @@
 use Rattle.cd_fit.proofs.Passed.{weighed}
 use Rattle.cd_fit.proofs.Axes.{fit_both}
 use mathlib.Core.Path.{◌∙◌, sym}
-use borrow.Author.Rules.{rules}
 use Rattle.cd_fit.proofs.fit_cd_weighted.Goals as goal
 
 pub sum_weighted-requires : goal.sum_weighted-requires

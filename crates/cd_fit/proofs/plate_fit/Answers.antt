@@ -1,6 +1,5 @@
 -- `cd_fit::plate_fit` meets its contract: the test decides. Assumes nothing.
 use Rattle.cd_fit.specs.Fit.{plate_fit}
-use borrow.Author.Rules.{rules}
 use Rattle.cd_fit.proofs.plate_fit.Goals as goal
 
 pub returns-then-magnitude : goal.returns-then-magnitude

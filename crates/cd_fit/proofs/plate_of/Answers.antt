@@ -1,5 +1,4 @@
 -- `cd_fit::plate_of` meets its contract: both right sides have their unknowns, and the calls give what the definition names. Assumes nothing.
-use borrow.Author.Rules.{rules}
 use Rattle.cd_fit.proofs.plate_of.Goals as goal
 
 pub returns : goal.returns

@@ -1,7 +1,6 @@
 -- `cd_fit::solve_both` meets its contract: one elimination is that of each axis. Assumes nothing.
 use Rattle.cd_fit.proofs.Axes.{fit_solved, fit_stopped}
 use mathlib.Core.Path.{◌∙◌, sym}
-use borrow.Author.Rules.{rules}
 use Rattle.cd_fit.proofs.solve_both.Goals as goal
 
 pub returns-in-Stopped : goal.returns-in-Stopped

@@ -4,7 +4,7 @@ use Rattle.rows.specs.Rows.{rows}
 use Rattle.cd_plate.specs.Plate.{inverse_of, error_of}
 use Rattle.cd_near.proofs.Squared.{near_by}
 use mathlib.Core.Path.{◌≡◌, ◌∙◌, ap}
-use Prim.Native.Nat.{ℕ, ◌-◌, ◌≤◌}
+use Prim.Native.Nat.{ℕ}
 use lib.ListN.{length}
 use mathlib.Core.Bool.{Bool}
 use lib.Ieee.{Float, le}

@@ -1,16 +1,10 @@
 -- `cd_near::count_near` meets its contract: after i rows the count is that of the near ones among the first i. Assumes nothing.
-use Rattle.cd_mask.specs.Marks.{byte_of, marks, ones}
+use Rattle.cd_mask.specs.Marks.{marks, ones}
 use Rattle.rows.specs.Rows.{rows}
-use Rattle.cd_plate.specs.Plate.{inverse_of, error_of}
 use Rattle.cd_near.proofs.Squared.{near_by}
-use mathlib.Core.Path.{◌≡◌, ◌∙◌, ap}
-use Prim.Native.Nat.{ℕ, ◌-◌, ◌≤◌}
+use mathlib.Core.Path.{◌≡◌}
+use Prim.Native.Nat.{◌≤◌}
 use lib.ListN.{length}
-use mathlib.Core.Bool.{Bool}
-use lib.Ieee.{le}
-use native.Mathlib.Omega.{arith}
-use Rattle.cd_mask.proofs.Marking.{byte_small, ones_le, ones_one}
-use borrow.Author.Rules.{rules}
 use Rattle.cd_near.proofs.count_near.Given as goal
 
 abbrev pub invariant-loop-i : goal.invariant-loop-i

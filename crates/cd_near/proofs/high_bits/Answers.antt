@@ -2,7 +2,6 @@
 use Rattle.cd_near.proofs.Ends.{infinity_past}
 use mathlib.Core.Path.{◌∙◌, sym}
 use native.Mathlib.Omega.{arith}
-use borrow.Author.Rules.{rules}
 use Rattle.cd_near.proofs.high_bits.Goals as goal
 
 pub returns-then-is_within : goal.returns-then-is_within

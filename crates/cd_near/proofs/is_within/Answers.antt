@@ -1,6 +1,5 @@
 -- `cd_near::is_within` meets its contract: the root is the definition's. Assumes nothing.
 use Rattle.floats.proofs.Patterns.{no_nan_up_to}
-use borrow.Author.Rules.{rules}
 use Rattle.cd_near.proofs.is_within.Goals as goal
 
 pub float_from_bits-bits : goal.float_from_bits-bits

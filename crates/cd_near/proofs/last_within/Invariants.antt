@@ -1,12 +1,8 @@
 -- `cd_near::last_within` meets its contract: one end stays within the limit and the other past it until nothing is between them. Assumes nothing.
 use Rattle.cd_near.specs.Reach.{infinity, is_within}
-use Rattle.floats.proofs.Ranks.{next_pattern}
-use Rattle.floats.proofs.Patterns.{no_nan_up_to}
-use mathlib.Core.Path.{◌≡◌, ◌∙◌, sym}
+use mathlib.Core.Path.{◌≡◌}
 use mathlib.Core.Bool.{true, false}
-use Prim.Native.Nat.{◌+◌, ◌-◌, ◌≤◌, ◌<◌}
-use native.Mathlib.Omega.{arith}
-use borrow.Author.Rules.{rules}
+use Prim.Native.Nat.{◌-◌, ◌≤◌, ◌<◌}
 use Rattle.cd_near.proofs.last_within.Given as goal
 
 abbrev pub invariant-loop-past : goal.invariant-loop-past

@@ -4,7 +4,6 @@ use Rattle.rows.specs.Rows.{rows}
 use Rattle.cd_plate.specs.Plate.{inverse_of, error_of}
 use Rattle.cd_near.proofs.Squared.{near_by}
 use mathlib.Core.Path.{◌≡◌, ◌∙◌, ap, sym}
-use Prim.Native.Nat.{◌+◌, ◌-◌, ◌≤◌}
 use lib.ListN.{length}
 use lib.Ieee.{le}
 use native.Mathlib.Omega.{arith}

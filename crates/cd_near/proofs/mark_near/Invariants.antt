@@ -1,17 +1,12 @@
 -- `cd_near::mark_near` meets its contract: after i rows the first i bytes are written. Assumes nothing.
-use Rattle.cd_mask.specs.Marks.{byte_of, marks}
+use Rattle.cd_mask.specs.Marks.{marks}
 use Rattle.rows.specs.Rows.{rows}
-use Rattle.cd_plate.specs.Plate.{inverse_of, error_of}
 use Rattle.cd_near.proofs.Squared.{near_by}
-use mathlib.Core.Path.{◌≡◌, ◌∙◌, ap, sym}
-use Prim.Native.Nat.{◌+◌, ◌-◌, ◌≤◌}
+use mathlib.Core.Path.{◌≡◌}
+use Prim.Native.Nat.{◌≤◌}
 use lib.ListN.{length}
-use lib.Ieee.{le}
-use native.Mathlib.Omega.{arith}
-use Rattle.cd_mask.proofs.Marking.{length_marks, mark_turn}
 use mathlib.Core.List.{◌++◌}
-use lib.ListN.{drop, length-set}
-use borrow.Author.Rules.{rules}
+use lib.ListN.{drop}
 use Rattle.cd_near.proofs.mark_near.Given as goal
 
 abbrev pub invariant-loop-i : goal.invariant-loop-i

@@ -4,7 +4,6 @@ use lib.Ieee.{Float, nan, inf, fin, is_nan, lt}
 use mathlib.Core.Path.{◌≡◌, refl}
 use mathlib.Core.Bool.{true, not}
 use Rattle.floats.proofs.Tests.{clash}
-use borrow.Author.Rules.{rules}
 use Rattle.cd_near.proofs.start_bits.Goals as goal
 
 -- what is below something is no NaN

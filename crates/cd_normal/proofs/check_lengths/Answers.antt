@@ -4,7 +4,6 @@ use mathlib.Core.Bool.{◌&&◌}
 use native.Mathlib.Omega.{arith}
 use lib.Dec.{eqb}
 use borrow.Author.Tests.{not-true, not-false, lt-ltb, le-ltb}
-use borrow.Author.Rules.{rules}
 use Rattle.cd_normal.proofs.Done.{square}
 use Rattle.cd_normal.specs.Normal.{tests_answer}
 use mathlib.Core.Path.{ap}

@@ -2,7 +2,6 @@
 use mathlib.Core.Path.{sym}
 use native.Mathlib.Omega.{arith}
 use lib.Seq.{length-take-le}
-use borrow.Author.Rules.{rules}
 use Rattle.cd_normal.proofs.System.{last_put}
 use Rattle.cd_normal.proofs.put_row.Goals as goal
 

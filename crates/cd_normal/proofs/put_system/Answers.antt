@@ -1,14 +1,10 @@
 -- `cd_normal::put_system` meets its contract: the rows before r are the system's. Assumes nothing.
-use Prim.Native.Nat.{◌+◌, ◌≤◌, ◌-◌, ◌*◌}
+use Prim.Native.Nat.{◌+◌, ◌-◌, ◌*◌}
 use mathlib.Core.Path.{◌≡◌, ◌∙◌}
 use native.Mathlib.Omega.{arith}
-use lib.ListN.{length}
 use borrow.Author.Rules.{rules}
 use Rattle.cd_normal.proofs.System.{rows_none, row_put, rows_all}
-use Rattle.cd_normal.specs.Normal.{system}
-use Rattle.elimination_rows.proofs.Turns.{up_to}
 use Rattle.elimination_rows.proofs.Flat.{in_row}
-use Rattle.elimination_rows.specs.Holds.{Holds}
 use Rattle.elimination_rows.specs.Matrix.{cells}
 use Rattle.cd_normal.proofs.put_system.Goals as goal
 

@@ -1,5 +1,4 @@
 -- `cd_plate::few_masked` meets its contract: the rows are tested, then the mask. Assumes nothing.
-use borrow.Author.Rules.{rules}
 use Rattle.cd_plate.proofs.few_masked.Goals as goal
 
 pub returns : goal.returns

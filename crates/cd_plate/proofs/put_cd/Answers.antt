@@ -3,7 +3,6 @@ use lib.ListN.{length-set}
 use native.Mathlib.Omega.{arith}
 use mathlib.Core.Path.{refl}
 use borrow.Author.Tests.{lt-ltb, le-ltb}
-use borrow.Author.Rules.{rules}
 use Rattle.answer.proofs.Lent.{front}
 use Rattle.cd_plate.specs.Six.{cd_numbers}
 use Rattle.cd_plate.proofs.put_cd.Goals as goal

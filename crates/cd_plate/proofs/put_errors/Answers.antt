@@ -1,12 +1,9 @@
 -- `cd_plate::put_errors` meets its contract: after i rows the first i places are filled. Assumes nothing.
-use Rattle.cd_plate.proofs.Filling.{Front, start, again, done}
-use Rattle.cd_plate.specs.Errors.{error_at}
-use Rattle.rows.specs.Rows.{rows}
+use Rattle.cd_plate.proofs.Filling.{start, again, done}
 use borrow.Author.Rules.{rules}
 use lib.ListN.{length}
 use native.Mathlib.Omega.{arith}
 use mathlib.Core.Path.{◌≡◌}
-use Prim.Native.Nat.{◌≤◌, ◌-◌}
 use Rattle.cd_plate.proofs.put_errors.Goals as goal
 
 pub loop-i-init : goal.loop-i-init

@@ -1,12 +1,10 @@
 -- `cd_plate::put_errors` meets its contract: after i rows the first i places are filled. Assumes nothing.
-use Rattle.cd_plate.proofs.Filling.{Front, start, again, done}
+use Rattle.cd_plate.proofs.Filling.{Front}
 use Rattle.cd_plate.specs.Errors.{error_at}
 use Rattle.rows.specs.Rows.{rows}
-use borrow.Author.Rules.{rules}
 use lib.ListN.{length}
-use native.Mathlib.Omega.{arith}
 use mathlib.Core.Path.{◌≡◌}
-use Prim.Native.Nat.{◌≤◌, ◌-◌}
+use Prim.Native.Nat.{◌≤◌}
 use Rattle.cd_plate.proofs.put_errors.Given as goal
 
 abbrev pub invariant-loop-i : goal.invariant-loop-i

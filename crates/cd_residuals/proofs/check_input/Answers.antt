@@ -1,6 +1,5 @@
 -- `cd_residuals::check_input` meets its contract: each test has its own return. Assumes nothing.
 use Rattle.cd_residuals.specs.Residuals.{input_answer}
-use borrow.Author.Rules.{rules}
 use mathlib.Core.Path.{ap}
 use mathlib.Core.Bool.{not}
 use Rattle.cd_residuals.proofs.check_input.Goals as goal

@@ -1,7 +1,6 @@
 -- `cd_residuals::compute_residuals` meets its contract: a refusal keeps the lists, and rows that passed the tests are of one length. Assumes nothing.
 use Rattle.cd_residuals.proofs.Passed.{checked}
 use mathlib.Core.Path.{◌∙◌, refl, sym}
-use borrow.Author.Rules.{rules}
 use Rattle.cd_residuals.proofs.compute_residuals.Goals as goal
 
 pub write_residuals-requires : goal.write_residuals-requires

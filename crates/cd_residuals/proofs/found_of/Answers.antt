@@ -1,6 +1,5 @@
 -- `cd_residuals::found_of` meets its contract: the test decides. Assumes nothing.
 use Rattle.cd_residuals.specs.Residuals.{found_of}
-use borrow.Author.Rules.{rules}
 use Rattle.cd_residuals.proofs.found_of.Goals as goal
 
 pub returns-then-magnitude : goal.returns-then-magnitude

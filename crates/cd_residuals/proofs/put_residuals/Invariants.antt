@@ -1,11 +1,8 @@
 -- `cd_residuals::put_residuals` meets its contract: after i rows the first i places of each list are filled. Assumes nothing.
-use Rattle.cd_plate.proofs.Filling.{Front, start, again, done}
+use Rattle.cd_plate.proofs.Filling.{Front}
 use Rattle.cd_residuals.specs.Residuals.{x_at, y_at, px_at}
 use Rattle.rows.specs.Rows.{rows}
-use borrow.Author.Rules.{rules}
-use native.Mathlib.Omega.{arith}
-use mathlib.Core.Path.{◌≡◌}
-use Prim.Native.Nat.{◌≤◌, ◌-◌}
+use Prim.Native.Nat.{◌≤◌}
 use Rattle.cd_residuals.proofs.put_residuals.Given as goal
 
 abbrev pub invariant-loop-i : goal.invariant-loop-i

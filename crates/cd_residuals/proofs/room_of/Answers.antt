@@ -1,5 +1,4 @@
 -- `cd_residuals::room_of` meets its contract: the first two lists are tested, then the third. Assumes nothing.
-use borrow.Author.Rules.{rules}
 use Rattle.cd_residuals.proofs.room_of.Goals as goal
 
 pub returns-then-x-need : goal.returns-then-x-need

@@ -1,11 +1,9 @@
 -- `cd_round::put_roots` meets its contract: after i weights the first i places are filled. Assumes nothing.
 use Rattle.cd_round.specs.Round.{root_at}
-use Rattle.cd_plate.proofs.Filling.{Front, start, again, done}
+use Rattle.cd_plate.proofs.Filling.{Front}
 use mathlib.Core.Path.{◌≡◌}
-use Prim.Native.Nat.{◌≤◌, ◌-◌}
+use Prim.Native.Nat.{◌≤◌}
 use lib.ListN.{length}
-use native.Mathlib.Omega.{arith}
-use borrow.Author.Rules.{rules}
 use Rattle.cd_round.proofs.put_roots.Given as goal
 
 abbrev pub invariant-loop-i : goal.invariant-loop-i

@@ -1,13 +1,10 @@
 -- `cd_sums::sum_rows` meets its contract: after i rows the sums are those of the first i. Assumes nothing.
-use Rattle.cd_sums.proofs.Turns.{plain_again}
 use Rattle.cd_sums.specs.Both.{Both}
-use Rattle.cd_sums.specs.Sums.{xi_of, eta_of, sums_to, plain_sums}
+use Rattle.cd_sums.specs.Sums.{xi_of, eta_of, plain_sums}
 use Rattle.rows.specs.Rows.{rows}
-use borrow.Author.Rules.{rules}
 use lib.ListN.{length}
-use native.Mathlib.Omega.{arith}
 use mathlib.Core.Path.{◌≡◌}
-use Prim.Native.Nat.{◌≤◌, ◌-◌}
+use Prim.Native.Nat.{◌≤◌}
 use Rattle.cd_sums.proofs.sum_rows.Given as goal
 
 abbrev pub invariant-loop-i : goal.invariant-loop-i

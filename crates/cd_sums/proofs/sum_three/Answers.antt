@@ -1,6 +1,5 @@
 -- `cd_sums::sum_three` meets its contract: each row is added to the sums of those before it. Assumes nothing.
 use Rattle.cd_sums.proofs.Turns.{row_again}
-use borrow.Author.Rules.{rules}
 use Rattle.cd_sums.proofs.sum_three.Goals as goal
 
 pub returns : goal.returns

@@ -1,6 +1,5 @@
 -- `hash_index::check_input` meets its contract: each test on the way. Assumes nothing.
 use borrow.Author.Tests.{lt-ltb, le-ltb, not-true, not-false}
-use borrow.Author.Rules.{rules}
 use Rattle.hash_index.specs.Matches.{input_answer}
 use mathlib.Core.Path.{ap}
 use mathlib.Core.Bool.{not}

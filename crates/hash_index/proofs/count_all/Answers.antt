@@ -1,7 +1,6 @@
 -- `hash_index::count_all` meets its contract: what is counted and what is left come to the whole, and each count is stored. Assumes nothing.
-use borrow.Author.Rules.{rules}
 use mathlib.Core.Path.{◌≡◌, ap, ◌∙◌}
-use Prim.Native.Nat.{◌+◌, ◌-◌, ◌*◌, ◌≤◌}
+use Prim.Native.Nat.{◌+◌, ◌-◌, ◌≤◌}
 use native.Mathlib.Nat.{sub-zero}
 use native.Mathlib.Omega.{arith}
 use lib.ListN.{length, length-set, length-append}
@@ -9,7 +8,7 @@ use Rattle.hash_lanes.specs.Lanes.{hash_at, base_of}
 use Rattle.hash_near.proofs.Near.{near_most}
 use Rattle.hash_near.proofs.Over.{over_more, over_end}
 use Rattle.hash_near.specs.Over.{over}
-use Rattle.hash_index.specs.Steps.{near_to, Counted}
+use Rattle.hash_index.specs.Steps.{near_to}
 use Rattle.hash_index.proofs.Call.{counted_none, counted_more}
 use Rattle.hash_index.proofs.count_all.Goals.{After-count_near-near}
 use Rattle.hash_index.proofs.count_all.Goals as goal

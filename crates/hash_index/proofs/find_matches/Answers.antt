@@ -1,5 +1,4 @@
 -- `hash_index::find_matches` meets its contract: a refused input changes nothing, and a taken one is answered by its core. Assumes nothing.
-use borrow.Author.Rules.{rules}
 use mathlib.Core.Path.{refl, sym, ◌∙◌}
 use Rattle.hash_index.specs.Matches.{matches_answer}
 use Rattle.hash_index.proofs.Call.{taken}

@@ -24,7 +24,7 @@ pub overflow_mul-total : goal.overflow_mul-total
 overflow_mul-total c = omega (arith, c.count_all-total.ensures.0, total_most c.args.hashes.now c.fill_lanes.new.lanes (length c.args.catalogue.now / 4) (length c.args.places.now / 4) c.requires.few_others, c.requires.few)
 
 pub returns-then-matches-total : goal.returns-then-matches-total
-returns-then-matches-total c = (no_room _ _ _ (counted c.before) c.if-matches-total.true, refl)
+returns-then-matches-total c = (no_room _ _ _ (counted (goal.at.returns-then-matches-total c).After-counts-2-1) c.if-matches-total.true, refl)
 
 pub write_all-requires : goal.write_all-requires
 write_all-requires c =
@@ -38,4 +38,4 @@ returns c =
     let a = c.args in
     let lanes = c.fill_lanes.new.lanes in
     let e = all_are a.places.now a.hashes.now a.catalogue.now a.others.now lanes c.requires.few_others c.fill_lanes.ensures in
-    done _ (matches_of a.places.now a.hashes.now a.catalogue.now a.others.now) a.matches.now _ (counted c.before.before.before.before.before.before.before.before.before) c.if-matches-total.false (rw e at c.write_all.ensures)
+    done _ (matches_of a.places.now a.hashes.now a.catalogue.now a.others.now) a.matches.now _ (counted (goal.at.returns c).After-counts-2-1) c.if-matches-total.false (rw e at c.write_all.ensures)

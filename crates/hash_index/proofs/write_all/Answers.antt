@@ -1,10 +1,9 @@
 -- `hash_index::write_all` meets its contract: what is left, written from p on, comes to the whole. Assumes nothing.
-use mathlib.Core.Path.{◌≡◌, ◌∙◌}
-use Prim.Native.Nat.{◌+◌, ◌-◌, ◌≤◌}
+use mathlib.Core.Path.{◌∙◌}
+use Prim.Native.Nat.{◌+◌, ◌-◌}
 use native.Mathlib.Nat.{sub-zero}
 use native.Mathlib.Omega.{arith}
-use lib.ListN.{length}
-use Rattle.hash_write.proofs.Writing.{Writing, start, room, step, ended}
+use Rattle.hash_write.proofs.Writing.{start, room, step, ended}
 use Rattle.hash_near.proofs.Over.{over_more, over_end}
 use Rattle.hash_near.specs.Over.{over}
 use Rattle.hash_index.specs.Steps.{near_matches}

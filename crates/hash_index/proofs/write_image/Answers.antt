@@ -1,5 +1,4 @@
 -- `hash_index::write_image` meets its contract: the near ones are gathered, and then written by number. Assumes nothing.
-use borrow.Author.Rules.{rules}
 use mathlib.Core.Path.{◌≡◌}
 use native.Mathlib.Omega.{arith}
 use lib.ListN.{take}
@@ -23,7 +22,7 @@ write_quad-requires c =
     let base = base_of (hash_at a.hashes.now a.i) in
     let e = eight_each a.places.now a.i a.catalogue.now a.lanes.now base a.m (omega (arith, c.requires.fact_1)) in
     let k = near_most a.lanes.now base 0 a.m in
-    let s = c.gather.auto.found in record { fact_1 = omega (arith, c.requires.fact_1); fact_2 = omega (arith, c.requires); fact_3 = omega (arith, c.requires); fact_4 = omega (arith, c.requires); fact_5 = rw (gathered c.before.before.before.before) (omega (arith, c.requires)) }
+    let s = c.gather.auto.found in record { fact_1 = omega (arith, c.requires.fact_1); fact_2 = omega (arith, c.requires); fact_3 = omega (arith, c.requires); fact_4 = omega (arith, c.requires); fact_5 = rw (gathered (goal.at.write_quad-requires c).After-gather) (omega (arith, c.requires)) }
 
 pub returns : goal.returns
-returns c = rw (gathered c.before.before.before.before.before.before.before) at c.write_quad.ensures
+returns c = rw (gathered (goal.at.returns c).After-gather) at c.write_quad.ensures

@@ -1,10 +1,5 @@
 -- `hash_near::count_near` meets its contract: what is counted and what is left come to the whole. Assumes nothing.
-use borrow.Author.Rules.{rules}
-use mathlib.Core.Path.{◌≡◌}
-use Prim.Native.Nat.{◌+◌, ◌-◌, ◌≤◌}
 use native.Mathlib.Omega.{arith}
-use lib.ListN.{length}
-use Rattle.hash_near.specs.Near.{near_from}
 use Rattle.hash_near.proofs.Near.{byte_most, count_more, count_end}
 use Rattle.hash_near.proofs.count_near.Goals as goal
 

@@ -1,9 +1,9 @@
 -- `hash_near::gather` meets its contract: those found, and then those left, are all; while some are not found, a block is left. Assumes nothing.
-use Prim.Native.Nat.{◌-◌, ◌≤◌, ◌<◌}
+use Prim.Native.Nat.{◌-◌, ◌<◌}
 use native.Mathlib.Nat.{sub-zero}
 use native.Mathlib.Omega.{arith}
 use Rattle.hash_near.specs.Near.{near_one, near_from}
-use Rattle.hash_near.proofs.Near.{Found, start, step, finished, near_most}
+use Rattle.hash_near.proofs.Near.{start, step, finished, near_most}
 use Rattle.hash_near.proofs.Over.{over_split, some_left}
 use Rattle.hash_near.proofs.gather.Goals.{In-loop-k}
 use Rattle.hash_near.proofs.gather.Goals as goal

@@ -1,9 +1,8 @@
 -- `hash_near::gather_block` meets its contract: those found, and then those left, are all. Assumes nothing.
-use borrow.Author.Rules.{rules}
-use Prim.Native.Nat.{◌+◌, ◌-◌, ◌≤◌}
+use Prim.Native.Nat.{◌+◌, ◌-◌}
 use native.Mathlib.Omega.{arith}
 use Rattle.hash_near.specs.Near.{near_one, near_from}
-use Rattle.hash_near.proofs.Near.{Found, start, step, ended, one_most}
+use Rattle.hash_near.proofs.Near.{start, step, ended, one_most}
 use Rattle.hash_near.proofs.Over.{over_more, over_end}
 use Rattle.hash_near.proofs.gather_block.Goals as goal
 

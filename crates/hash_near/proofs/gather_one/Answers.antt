@@ -1,5 +1,4 @@
 -- `hash_near::gather_one` meets its contract: a near quad is stored after those found, and another is passed over. Assumes nothing.
-use borrow.Author.Rules.{rules}
 use mathlib.Core.Path.{sym, ◌∙◌}
 use Prim.Native.Nat.{◌<◌}
 use native.Mathlib.Omega.{arith}

@@ -1,5 +1,4 @@
 -- `hash_near::gather_some` meets its contract: a block that counts none has none. Assumes nothing.
-use borrow.Author.Rules.{rules}
 use mathlib.Core.Path.{sym, ◌∙◌}
 use Rattle.hash_near.proofs.Over.{no_length}
 use Rattle.hash_near.proofs.Near.{none_more}

@@ -1,5 +1,4 @@
 -- `hash_write::place_at` meets its contract: past the end the place is 0. Assumes nothing.
-use borrow.Author.Rules.{rules}
 use mathlib.Core.Path.{sym}
 use lib.ListN.{get_or-eq_default}
 use Rattle.hash_write.proofs.place_at.Goals as goal

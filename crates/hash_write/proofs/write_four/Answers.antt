@@ -1,5 +1,4 @@
 -- `hash_write::write_four` meets its contract: four stores, each with its length kept. Assumes nothing.
-use borrow.Author.Rules.{rules}
 use native.Mathlib.Numerals.{add-one, add-two, add-three}
 use native.Mathlib.Omega.{arith}
 use lib.ListN.{length-set}

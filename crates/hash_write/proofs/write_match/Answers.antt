@@ -1,5 +1,4 @@
 -- `hash_write::write_match` meets its contract: two runs of four stores. Assumes nothing.
-use borrow.Author.Rules.{rules}
 use Rattle.hash_write.proofs.Writing.{two_fours}
 use Rattle.hash_write.proofs.write_match.Goals as goal
 

@@ -1,11 +1,11 @@
 -- `hash_write::write_number` meets its contract: what is left, written from q on, comes to the whole. Assumes nothing.
-use borrow.Author.Rules.{scaled_Fits, rules}
-use Prim.Native.Nat.{◌+◌, ◌-◌, ◌≤◌}
+use borrow.Author.Rules.{scaled_Fits}
+use Prim.Native.Nat.{◌+◌}
 use native.Mathlib.Omega.{arith}
 use lib.ListN.{length, get_or, take, drop}
 use Rattle.hash_near.specs.Over.{each}
 use Rattle.hash_write.specs.Write.{pick}
-use Rattle.hash_write.proofs.Writing.{Writing, start, room, step, ended, each_more, each_end}
+use Rattle.hash_write.proofs.Writing.{start, room, step, ended, each_more, each_end}
 use Rattle.hash_write.proofs.write_number.Goals as goal
 
 pub loop-t-init : goal.loop-t-init

@@ -1,5 +1,4 @@
 -- `hash_write::write_one` meets its contract: a match is written where the number is n, and nothing elsewhere. Assumes nothing.
-use borrow.Author.Rules.{rules}
 use mathlib.Core.Path.{refl, ap}
 use native.Mathlib.Omega.{arith}
 use lib.ListN.{length}

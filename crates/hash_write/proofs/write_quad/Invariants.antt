@@ -1,13 +1,10 @@
 -- `hash_write::write_quad` meets its contract: what is left, written from q on, comes to the whole; while there is more to write, a number is left. Assumes nothing.
-use borrow.Author.Rules.{rules}
 use mathlib.Core.Path.{◌≡◌}
-use Prim.Native.Nat.{◌+◌, ◌-◌, ◌*◌, ◌≤◌, ◌<◌}
-use native.Mathlib.Omega.{arith}
+use Prim.Native.Nat.{◌+◌, ◌-◌, ◌*◌, ◌≤◌}
 use lib.ListN.{take}
-use Rattle.hash_near.proofs.Over.{over_more, some_left, no_length}
 use Rattle.hash_near.specs.Over.{over}
 use Rattle.hash_write.specs.Write.{of_number, by_number}
-use Rattle.hash_write.proofs.Writing.{Writing, start, room, step, ended, from_first}
+use Rattle.hash_write.proofs.Writing.{Writing}
 use Rattle.hash_write.proofs.write_quad.Given as goal
 
 abbrev pub invariant-loop-q : goal.invariant-loop-q

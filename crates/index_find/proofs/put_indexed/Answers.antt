@@ -27,7 +27,7 @@ overflow_mul-total c = let a = c.args in
     omega (arith, c.count_all-total.ensures.total, total_most a.hashes.now a.table.now (length a.catalogue.now / 4) (length a.places.now / 4) c.requires.fact_1.few_others (near_most a.places.now a.hashes.now a.catalogue.now a.others.now a.table.now c.requires.fact_1.few_others c.requires.fact_2), c.requires.fact_1.few)
 
 pub returns-then-matches-total : goal.returns-then-matches-total
-returns-then-matches-total c = record { answer = no_room _ _ _ (counted c.before) c.if-matches-total.true; matches = refl }
+returns-then-matches-total c = record { answer = no_room _ _ _ (counted (goal.at.returns-then-matches-total c).After-counts-2-1) c.if-matches-total.true; matches = refl }
 
 pub write_all-requires : goal.write_all-requires
 write_all-requires c = let a = c.args in record { searched_1 = searched a.places.now a.hashes.now a.catalogue.now a.others.now a.table.now c.requires.fact_1 c.requires.fact_2; searched_2 = search rules; searched_3 = search rules; searched_4 = c.count_all-total.ensures.counts; held_1 = c.count_all-total.ensures.kept; held_2 = omega (arith, c.count_all-total.ensures.total, c.if-matches-total.false) }
@@ -35,4 +35,4 @@ write_all-requires c = let a = c.args in record { searched_1 = searched a.places
 pub returns : goal.returns
 returns c = let a = c.args in
     let e = all_are a.places.now a.hashes.now a.catalogue.now a.others.now a.table.now c.requires.fact_1.few_others c.requires.fact_2 in
-    done _ (matches_of a.places.now a.hashes.now a.catalogue.now a.others.now) a.matches.now _ (counted c.before.before.before.before.before.before.before.before) c.if-matches-total.false (rw e at c.write_all.ensures)
+    done _ (matches_of a.places.now a.hashes.now a.catalogue.now a.others.now) a.matches.now _ (counted (goal.at.returns c).After-counts-2-1) c.if-matches-total.false (rw e at c.write_all.ensures)

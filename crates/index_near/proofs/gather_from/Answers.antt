@@ -1,9 +1,9 @@
 -- `index_near::gather_from` meets its contract: those found, and then those of the entries left, are all; before the first and after the last there are none. Assumes nothing.
-use Rattle.std.proofs.Common.{ℕ, ◌+◌, ◌-◌, ◌<◌, ◌≤◌, get_or, sym, ◌∙◌, arith}
+use Rattle.std.proofs.Common.{◌+◌, ◌-◌, sym, ◌∙◌, arith}
 use Rattle.hash_near.specs.Over.{over}
 use Rattle.hash_near.proofs.Over.{over_more}
-use Rattle.hash_near.proofs.Near.{Found, start, step, ended}
-use Rattle.index_near.specs.Near.{hit_at, hits}
+use Rattle.hash_near.proofs.Near.{start, step, ended}
+use Rattle.index_near.specs.Near.{hit_at}
 use Rattle.index_near.proofs.Ranges.{from_lower, past, within_is, room}
 use Rattle.index_near.proofs.gather_from.Goals as goal
 

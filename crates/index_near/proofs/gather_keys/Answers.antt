@@ -1,9 +1,9 @@
 -- `index_near::gather_keys` meets its contract: those found, and then those of the nines left, are all. Assumes nothing.
-use Rattle.std.proofs.Common.{ℕ, ◌+◌, ◌-◌, ◌*◌, ◌≤◌, List, get_or, arith, rules}
+use Rattle.std.proofs.Common.{◌+◌, ◌-◌, get_or, arith}
 use Rattle.hash_near.specs.Over.{over}
 use Rattle.hash_near.proofs.Over.{over_more, over_end}
-use Rattle.hash_near.proofs.Near.{Found, step, ended}
-use Rattle.index_near.specs.Near.{one_hits, key_hits}
+use Rattle.hash_near.proofs.Near.{step, ended}
+use Rattle.index_near.specs.Near.{one_hits}
 use Rattle.index_near.proofs.Ranges.{starts, room}
 use Rattle.index_near.proofs.Keys.{nine_groups}
 use Rattle.index_near.proofs.gather_keys.Invariants.{part}

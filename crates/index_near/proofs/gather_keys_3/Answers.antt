@@ -1,5 +1,5 @@
 -- `index_near::gather_keys_3` meets its contract: three keys that are consecutive numbers are one run, and else they are found one after the other. Assumes nothing.
-use Rattle.std.proofs.Common.{ℕ, ◌+◌, ◌-◌, [], get_or, refl, arith, rules}
+use Rattle.std.proofs.Common.{ℕ, ◌+◌, [], get_or, refl, arith}
 use Rattle.hash_near.specs.Over.{over}
 use Rattle.hash_near.proofs.Near.{start, step, ended}
 use Rattle.index_near.specs.Near.{one_hits}

@@ -1,6 +1,6 @@
 -- `index_near::gather_keys_9` meets its contract: nine keys with two lanes alike stand between two places of the table; where there is no entry they give nothing. Assumes nothing.
 use borrow.Author.Tests.{not-true}
-use Rattle.std.proofs.Common.{ℕ, ◌+◌, ◌-◌, [], get_or, sym, refl, ◌∙◌, arith, rules}
+use Rattle.std.proofs.Common.{ℕ, ◌+◌, [], get_or, sym, refl, ◌∙◌, arith}
 use Rattle.hash_near.specs.Over.{over}
 use Rattle.hash_near.proofs.Over.{append_nil, over_add}
 use Rattle.hash_near.proofs.Near.{start, step, ended, none_more}

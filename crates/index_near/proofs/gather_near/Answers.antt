@@ -1,5 +1,5 @@
 -- `index_near::gather_near` meets its contract: a quad with no lane at an end has three ranges, and another its 81 keys, of which each nine have two lanes alike. Assumes nothing.
-use Rattle.std.proofs.Common.{◌≡◌, ◌-◌, true, false, sym, ap, ◌∙◌, rules}
+use Rattle.std.proofs.Common.{◌≡◌, true, false, sym, ap, ◌∙◌}
 use Rattle.index_table.specs.Table.{quad_key}
 use Rattle.index_near.specs.Near.{inner}
 use Rattle.index_near.proofs.Ranges.{quad_room, near_inner, near_ends, same_keys}

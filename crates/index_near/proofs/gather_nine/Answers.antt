@@ -1,9 +1,8 @@
 -- `index_near::gather_nine` meets its contract: those found, and then those of the runs left, are all. Assumes nothing.
-use Rattle.std.proofs.Common.{ℕ, ◌+◌, ◌-◌, ◌≤◌, List, arith, rules}
+use Rattle.std.proofs.Common.{◌+◌, ◌-◌, arith}
 use Rattle.hash_near.specs.Over.{over}
 use Rattle.hash_near.proofs.Over.{over_more, over_end}
-use Rattle.hash_near.proofs.Near.{Found, step, ended}
-use Rattle.index_near.specs.Near.{hits, last_of}
+use Rattle.hash_near.proofs.Near.{step, ended}
 use Rattle.index_near.proofs.Splits.{run_of, nine_runs}
 use Rattle.index_near.proofs.Ranges.{after, starts, room}
 use Rattle.index_near.proofs.gather_nine.Invariants.{part}

@@ -1,5 +1,5 @@
 -- `index_near::gather_one` meets its contract: the place of an entry whose key is inside is stored after those found, and another is passed over. Assumes nothing.
-use Rattle.std.proofs.Common.{◌-◌, length, sym, ap, ◌∙◌, arith, rules}
+use Rattle.std.proofs.Common.{length, sym, ap, ◌∙◌, arith}
 use Rattle.hash_near.proofs.Near.{one_more, none_more}
 use Rattle.index_near.proofs.Ranges.{hit_inside, hit_outside}
 use Rattle.index_near.proofs.gather_one.Goals as goal

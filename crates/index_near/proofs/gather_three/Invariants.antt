@@ -1,10 +1,8 @@
 -- `index_near::gather_three` meets its contract: those found, and then those of the ranges left, are all. Assumes nothing.
-use Rattle.std.proofs.Common.{ℕ, ◌+◌, ◌-◌, ◌*◌, ◌^◌, ◌≤◌, List, arith, rules}
+use Rattle.std.proofs.Common.{ℕ, ◌+◌, ◌-◌, ◌*◌, ◌^◌, ◌≤◌, List}
 use Rattle.hash_near.specs.Over.{over}
-use Rattle.hash_near.proofs.Over.{over_more, over_end}
-use Rattle.hash_near.proofs.Near.{Found, start, step, ended}
+use Rattle.hash_near.proofs.Near.{Found}
 use Rattle.index_near.specs.Near.{hits, last_of, three_hits}
-use Rattle.index_near.proofs.Ranges.{room}
 use Rattle.index_near.proofs.gather_three.Given as goal
 
 abbrev pub part : List ℕ → ℕ → ℕ → ℕ → List ℕ

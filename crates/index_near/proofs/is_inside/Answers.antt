@@ -1,6 +1,5 @@
 -- `index_near::is_inside` meets its contract: a key of from..to is tested by its two lowest lanes alone. Assumes nothing.
 use Rattle.index_near.proofs.Ranges.{inside_is}
-use Rattle.std.proofs.Common.{◌-◌, rules}
 use Rattle.index_near.proofs.is_inside.Goals as goal
 
 pub returns : goal.returns

@@ -1,5 +1,5 @@
 -- `index_near::is_within` meets its contract: entry k is tested where there is one. Assumes nothing.
-use Rattle.std.proofs.Common.{◌-◌, rules, le-ltb, lt-ltb}
+use Rattle.std.proofs.Common.{le-ltb, lt-ltb}
 use Rattle.index_near.proofs.is_within.Goals as goal
 
 pub returns-then-k-m : goal.returns-then-k-m

@@ -2,7 +2,7 @@
 use Rattle.hash_near.proofs.Over.{append_nil}
 use Rattle.quad_key.proofs.Neighbours.{keys_length}
 use Rattle.quad_key.specs.Key.{neighbour_keys}
-use Rattle.std.proofs.Common.{◌-◌, ◌∙◌, rules}
+use Rattle.std.proofs.Common.{◌∙◌, rules}
 use Rattle.index_near.proofs.keys_of.Goals as goal
 
 pub returns : goal.returns

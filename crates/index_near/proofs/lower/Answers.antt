@@ -1,6 +1,6 @@
 -- `index_near::lower` meets its contract: where the keys start is between the two ends, which halving brings together. Assumes nothing.
-use Rattle.std.proofs.Common.{refl, arith, rules}
-use Rattle.index_near.proofs.Ranges.{Halving, halving_start, halving_step, halving_end}
+use Rattle.std.proofs.Common.{refl}
+use Rattle.index_near.proofs.Ranges.{halving_start, halving_step, halving_end}
 use Rattle.index_near.proofs.lower.Goals as goal
 
 pub loop-len-init : goal.loop-len-init

@@ -1,6 +1,5 @@
 -- `index_near::lower` meets its contract: where the keys start is between the two ends, which halving brings together. Assumes nothing.
-use Rattle.std.proofs.Common.{refl, arith, rules}
-use Rattle.index_near.proofs.Ranges.{Halving, halving_start, halving_step, halving_end}
+use Rattle.index_near.proofs.Ranges.{Halving}
 use Rattle.index_near.proofs.lower.Given as goal
 
 abbrev pub invariant-loop-len : goal.invariant-loop-len

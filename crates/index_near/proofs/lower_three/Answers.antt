@@ -1,6 +1,6 @@
 -- `index_near::lower_three` meets its contract: three searches halve what is left at once. Assumes nothing.
-use Rattle.std.proofs.Common.{◌+◌, refl, arith, rules}
-use Rattle.index_near.proofs.Ranges.{Halving, halving_all, halving_step, halving_end, three_starts}
+use Rattle.std.proofs.Common.{refl}
+use Rattle.index_near.proofs.Ranges.{halving_all, halving_step, halving_end, three_starts}
 use Rattle.index_near.proofs.lower_three.Goals as goal
 
 pub loop-len-init : goal.loop-len-init

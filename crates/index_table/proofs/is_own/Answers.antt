@@ -1,8 +1,6 @@
 -- `index_table::is_own` meets its contract: a place that is there has the key of its entry. Assumes nothing.
 use Rattle.index_table.specs.Steps.{own_at}
 use borrow.Author.Tests.{lt-ltb, le-ltb}
-use Prim.Native.Nat.{◌-◌}
-use borrow.Author.Rules.{rules}
 use Rattle.index_table.proofs.is_own.Goals as goal
 
 pub returns-then-place-n : goal.returns-then-place-n

@@ -2,8 +2,6 @@
 use Rattle.index_table.proofs.Entries.{short, not_own, decided}
 use borrow.Author.Tests.{not-true, not-false}
 use native.Mathlib.Omega.{arith}
-use Prim.Native.Nat.{◌-◌}
-use borrow.Author.Rules.{rules}
 use mathlib.Core.Path.{ap}
 use mathlib.Core.Bool.{not}
 use Rattle.index_table.proofs.is_table.Goals as goal

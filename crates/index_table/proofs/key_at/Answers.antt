@@ -1,6 +1,5 @@
 -- `index_table::key_at` meets its contract: the key of a quad's hash, turned. Assumes nothing.
 use Rattle.index_table.specs.Table.{quad_key}
-use borrow.Author.Rules.{rules}
 use Rattle.index_table.proofs.key_at.Goals as goal
 
 pub returns : goal.returns

@@ -1,7 +1,6 @@
 -- `index_table::rises` meets its contract: the three tests are the definition's. Assumes nothing.
 use Rattle.index_table.specs.Steps.{rises_at}
 use mathlib.Core.Path.{refl}
-use borrow.Author.Rules.{rules}
 use Rattle.index_table.proofs.rises.Goals as goal
 
 pub returns : goal.returns

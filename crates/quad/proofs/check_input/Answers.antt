@@ -1,5 +1,4 @@
 -- `quad::check_input` meets its contract. Assumes nothing.
-use borrow.Author.Rules.{rules}
 use borrow.Author.Tests.{lt-ltb, le-ltb}
 use Rattle.quad.specs.Quads.{input_answer}
 use Rattle.quad.proofs.check_input.Goals as goal

@@ -2,7 +2,6 @@
 use mathlib.Core.Path.{◌∙◌}
 use lib.ListN.{length}
 use Rattle.quad.proofs.Fours.{shifted, chosen, either_below}
-use borrow.Author.Rules.{rules}
 use Rattle.quad.proofs.four_in.Goals as goal
 
 pub place_in-a-requires : goal.place_in-a-requires

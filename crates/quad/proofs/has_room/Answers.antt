@@ -8,7 +8,6 @@ use Rattle.quad_lists.specs.Lists.{listed}
 use Rattle.quad_lists.proofs.All.{listed_most}
 use Rattle.quad.specs.Quads.{all_places}
 use Rattle.quad.proofs.Laws.{few_places}
-use borrow.Author.Rules.{rules}
 use Rattle.quad.proofs.has_room.Goals as goal
 
 pub returns-then-xs-room : goal.returns-then-xs-room

@@ -1,5 +1,4 @@
 -- `quad::kept_of` meets its contract. Assumes nothing.
-use borrow.Author.Rules.{rules}
 use Rattle.quad.proofs.kept_of.Goals as goal
 
 pub returns-in-Hash : goal.returns-in-Hash

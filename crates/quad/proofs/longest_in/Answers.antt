@@ -5,7 +5,6 @@ use Rattle.quad_spine.specs.Spine.{oriented, spine_of}
 use Rattle.quad_spine.proofs.Longest.{oriented_span}
 use Rattle.quad.specs.Quads.{four_of}
 use Rattle.quad.proofs.Fours.{bytes_below}
-use borrow.Author.Rules.{rules}
 use Rattle.quad.proofs.longest_in.Goals as goal
 
 pub star_in-p-requires : goal.star_in-p-requires

@@ -1,11 +1,8 @@
 -- `quad::needed` meets its contract. Assumes nothing.
 use Prim.Native.Nat.{◌+◌, ◌-◌, ◌*◌, ◌≤◌}
 use mathlib.Core.Path.{◌≡◌}
-use native.Mathlib.Omega.{arith}
-use lib.ListN.{length, get_or, take, drop}
-use Rattle.quad.specs.Quads.{quad_of, all_places}
-use Rattle.quad.proofs.Laws.{at_most_4, count_more, count_end}
-use borrow.Author.Rules.{rules}
+use lib.ListN.{length, take, drop}
+use Rattle.quad.specs.Quads.{all_places}
 use Rattle.quad.proofs.needed.Given as goal
 
 abbrev pub invariant-loop-i : goal.invariant-loop-i

@@ -1,5 +1,4 @@
 -- `quad::neighbor_quads` meets its contract. Assumes nothing.
-use borrow.Author.Rules.{rules}
 use mathlib.Core.Path.{refl, sym, ◌∙◌}
 use Rattle.quad.specs.Quads.{quads_answer}
 use Rattle.quad.proofs.Passed.{within}

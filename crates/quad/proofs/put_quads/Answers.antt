@@ -5,7 +5,6 @@ use borrow.Author.Tests.{not-true, not-false}
 use Rattle.quad_lists.proofs.All.{listed_is}
 use Rattle.quad.proofs.Laws.{refused, room_both, done}
 use Rattle.quad.proofs.Fours.{seeds_are}
-use borrow.Author.Rules.{rules}
 use mathlib.Core.Path.{ap}
 use mathlib.Core.Bool.{not}
 use Rattle.quad.proofs.put_quads.Goals as goal

@@ -1,7 +1,6 @@
 -- `quad::quad_of` meets its contract. Assumes nothing.
 use Rattle.quad_normal.specs.Normal.{normal_of}
 use Rattle.quad.specs.Quads.{tried_of}
-use borrow.Author.Rules.{rules}
 use Rattle.quad.proofs.quad_of.Goals as goal
 
 pub returns-then-l-least : goal.returns-then-l-least

@@ -1,7 +1,6 @@
 -- `quad::size_of` meets its contract. Assumes nothing.
 use Rattle.quad_normal.specs.Normal.{least_scale}
 use Rattle.quad.proofs.Laws.{size_short, size_degenerate, size_kept}
-use borrow.Author.Rules.{rules}
 use Rattle.quad.proofs.size_of.Goals as goal
 
 pub returns-then-span-least : goal.returns-then-span-least

@@ -1,15 +1,10 @@
 -- `quad::write_all` meets its contract. Assumes nothing.
-use Prim.Native.Nat.{◌+◌, ◌-◌, ◌≤◌}
-use mathlib.Core.Path.{◌≡◌, ◌∙◌, refl}
-use native.Mathlib.Nat.{sub-zero}
-use native.Mathlib.Omega.{arith}
+use Prim.Native.Nat.{◌-◌, ◌≤◌}
+use mathlib.Core.Path.{◌≡◌}
 use lib.ListN.{length}
-use Rattle.quad_visit.specs.Met.{new_of, new_from}
+use Rattle.quad_visit.specs.Met.{new_from}
 use Rattle.quad_lists.specs.Lists.{rows_of, listed}
-use Rattle.quad_lists.proofs.All.{from_more, from_end}
-use Rattle.quad.proofs.Laws.{Writing, start, step_part, ended, count_part}
-use Rattle.quad.proofs.Fours.{sets_are}
-use borrow.Author.Rules.{rules}
+use Rattle.quad.proofs.Laws.{Writing}
 use Rattle.quad.proofs.write_all.Given as goal
 
 abbrev pub invariant-loop-seed : goal.invariant-loop-seed

@@ -1,10 +1,9 @@
 -- `quad::write_sets` meets its contract. Assumes nothing.
-use Prim.Native.Nat.{◌+◌, ◌-◌, ◌≤◌}
+use Prim.Native.Nat.{◌+◌}
 use native.Mathlib.Omega.{arith}
 use lib.ListN.{get_or, take, drop}
 use Rattle.quad_visit.proofs.Laws.{rest}
-use Rattle.quad.proofs.Laws.{Writing, start, step, ended, none_left, count_more}
-use borrow.Author.Rules.{rules}
+use Rattle.quad.proofs.Laws.{start, step, ended, none_left, count_more}
 use Rattle.quad.proofs.write_sets.Goals as goal
 
 pub loop-i-init : goal.loop-i-init

@@ -1,10 +1,7 @@
 -- `quad::write_sets` meets its contract. Assumes nothing.
-use Prim.Native.Nat.{◌+◌, ◌-◌, ◌≤◌}
-use native.Mathlib.Omega.{arith}
-use lib.ListN.{get_or, take, drop}
-use Rattle.quad_visit.proofs.Laws.{rest}
-use Rattle.quad.proofs.Laws.{Writing, start, step, ended, none_left, count_more}
-use borrow.Author.Rules.{rules}
+use Prim.Native.Nat.{◌-◌, ◌≤◌}
+use lib.ListN.{take, drop}
+use Rattle.quad.proofs.Laws.{Writing}
 use Rattle.quad.proofs.write_sets.Given as goal
 
 abbrev pub invariant-loop-i : goal.invariant-loop-i

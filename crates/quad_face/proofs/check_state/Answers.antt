@@ -1,6 +1,5 @@
 -- `quad_face::check_state` meets its contract: each return stands for the tests that led there. Assumes nothing.
 use borrow.Author.Tests.{lt-ltb, le-ltb, eq-eqb, ne_eqb, not-true, not-false}
-use borrow.Author.Rules.{rules}
 use mathlib.Core.Path.{ap}
 use mathlib.Core.Bool.{not}
 use Rattle.quad_face.proofs.check_state.Goals as goal

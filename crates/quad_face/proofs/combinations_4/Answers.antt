@@ -1,7 +1,6 @@
 -- `quad_face::combinations_4` meets its contract: a refusal keeps the list, and the first state goes where there is room. Assumes nothing.
 use Rattle.answer.specs.Answers.{answer_number}
 use mathlib.Core.Path.{refl, ap, ◌∙◌}
-use borrow.Author.Rules.{rules}
 use Rattle.quad_face.proofs.combinations_4.Goals as goal
 
 pub returns-in-Refused : goal.returns-in-Refused

@@ -3,7 +3,6 @@ use Rattle.quad_face.proofs.Laws.{five}
 use native.Mathlib.Omega.{arith}
 use Rattle.answer.specs.Answers.{answer_number}
 use mathlib.Core.Path.{refl, ap, ◌∙◌, sym}
-use borrow.Author.Rules.{rules}
 use Rattle.quad_face.proofs.combinations_4_next.Goals as goal
 
 pub state_in-requires : goal.state_in-requires

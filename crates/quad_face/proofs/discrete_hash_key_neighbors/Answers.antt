@@ -1,7 +1,6 @@
 -- `quad_face::discrete_hash_key_neighbors` meets its contract: the inner call decides. Assumes nothing.
 use Rattle.answer.specs.Answers.{answer_number}
 use mathlib.Core.Path.{ap, ◌∙◌}
-use borrow.Author.Rules.{rules}
 use Rattle.quad_face.proofs.discrete_hash_key_neighbors.Goals as goal
 
 pub returns : goal.returns

@@ -1,6 +1,5 @@
 -- `quad_face::neighbor_quads` meets its contract: the inner call decides, and the count is handed out where it is done. Assumes nothing.
 use mathlib.Core.Path.{refl}
-use borrow.Author.Rules.{rules}
 use Rattle.quad_face.proofs.neighbor_quads.Goals as goal
 
 pub returns-in-Refused : goal.returns-in-Refused

@@ -5,7 +5,6 @@ use lib.ListN.{length-set}
 use native.Mathlib.Omega.{arith}
 use mathlib.Core.Path.{refl}
 use borrow.Author.Tests.{lt-ltb, le-ltb}
-use borrow.Author.Rules.{rules}
 use Rattle.quad_face.proofs.put_state.Goals as goal
 
 pub returns-then-out-lt5 : goal.returns-then-out-lt5

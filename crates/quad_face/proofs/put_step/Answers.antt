@@ -1,7 +1,6 @@
 -- `quad_face::put_step` meets its contract: a set with room, a set without, none left, and a refusal. Assumes nothing.
 use mathlib.Core.Path.{refl}
 use borrow.Author.Tests.{le-ltb}
-use borrow.Author.Rules.{rules}
 use Rattle.quad_face.proofs.put_step.Goals as goal
 
 pub returns-in-Refused-put_four : goal.returns-in-Refused-put_four

@@ -1,5 +1,4 @@
 -- `quad_normal::answer_of` meets its contract: each case of what it is given has its own answer. Assumes nothing.
-use borrow.Author.Rules.{rules}
 use Rattle.quad_normal.proofs.answer_of.Goals as goal
 
 pub returns-in-Hash : goal.returns-in-Hash

@@ -1,7 +1,6 @@
 -- `quad_normal::hash_of` meets its contract: the test picks the same quad as the definition. Assumes nothing.
 use Rattle.quad_stars.specs.Stars.{places_of}
 use Rattle.quad_normal.specs.Normal.{hash_of}
-use borrow.Author.Rules.{rules}
 use Rattle.quad_normal.proofs.hash_of.Goals as goal
 
 pub returns-then-c_first : goal.returns-then-c_first

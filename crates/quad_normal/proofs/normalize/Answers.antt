@@ -1,6 +1,5 @@
 -- `quad_normal::normalize` meets its contract: the test decides, then the calls give what the definition names. Assumes nothing.
 use Rattle.quad_normal.specs.Normal.{scaled_by, least_scale}
-use borrow.Author.Rules.{rules}
 use Rattle.quad_normal.proofs.normalize.Goals as goal
 
 pub returns-then-scale : goal.returns-then-scale

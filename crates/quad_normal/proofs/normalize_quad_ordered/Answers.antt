@@ -1,6 +1,5 @@
 -- `quad_normal::normalize_quad_ordered` meets its contract. Assumes nothing.
 use Rattle.quad_normal.specs.Normal.{normal_of, normal_answer}
-use borrow.Author.Rules.{rules}
 use Rattle.quad_normal.proofs.normalize_quad_ordered.Goals as goal
 
 pub returns-in-Refused : goal.returns-in-Refused

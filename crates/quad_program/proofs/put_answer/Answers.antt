@@ -3,11 +3,10 @@ use Rattle.quad_program.proofs.Whole.{found_few, found_text_lem, refused_text}
 use Rattle.put.proofs.Writing.{same_text}
 use native.Mathlib.Omega.{arith}
 use mathlib.Core.Path.{sym, ◌∙◌}
-use borrow.Author.Rules.{rules}
 use Rattle.quad_program.proofs.put_answer.Goals as goal
 
 pub put_found-requires : goal.put_found-requires
-put_found-requires c = let b = found_few _ _ _ _ _ (sym c.neighbor_quads.ensures.answer ∙ c.in-Found.is) in let k = c.neighbor_quads.auto in (omega (arith, b.0, c.requires), omega (arith, b.0, k.1.1.1.1.0), omega (arith, b.0, k.1.1.1.1.1.0))
+put_found-requires c = let b = found_few _ _ _ _ _ (sym c.neighbor_quads.ensures.answer ∙ c.in-Found.is) in let k = c.neighbor_quads.auto in (omega (arith, b.0, c.requires), omega (arith, b.0, k.places), omega (arith, b.0, k.hashes))
 
 pub returns-in-Refused : goal.returns-in-Refused
 returns-in-Refused c = (same_text (refused_text _ _ _ _ _ _ _ c.requires.1 c.in-Refused.is c.neighbor_quads.ensures.answer c.number.ensures) c.put_status.ensures.0, omega (arith, c.put_status.ensures.1))

@@ -3,7 +3,6 @@ use Rattle.quad_program.proofs.Printing.{count_short}
 use Rattle.quad_program.specs.Print.{found_text}
 use Rattle.put.proofs.Writing.{then, put_length}
 use native.Mathlib.Omega.{arith}
-use borrow.Author.Rules.{rules}
 use Rattle.quad_program.proofs.put_found.Goals as goal
 
 pub put_decimal_line-q-requires : goal.put_decimal_line-q-requires

@@ -1,7 +1,6 @@
 -- `quad_program::put_key` meets its contract: three texts, one after the other.
 use Rattle.put.proofs.Writing.{then, room_first, room_next}
 use Rattle.quad_program.specs.Print.{key_line}
-use borrow.Author.Rules.{rules}
 use Rattle.quad_program.proofs.put_key.Goals as goal
 
 pub put_bytes-p-requires : goal.put_bytes-p-requires

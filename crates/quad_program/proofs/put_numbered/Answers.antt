@@ -1,7 +1,6 @@
 -- `quad_program::put_numbered` meets its contract: two texts, one after the other.
 use Rattle.put.proofs.Writing.{then, room_first, room_next}
 use Rattle.quad_program.specs.Print.{numbered}
-use borrow.Author.Rules.{rules}
 use Rattle.quad_program.proofs.put_numbered.Goals as goal
 
 pub put_bytes-p-requires : goal.put_bytes-p-requires

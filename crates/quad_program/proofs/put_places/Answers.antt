@@ -1,7 +1,6 @@
 -- `quad_program::put_places` meets its contract: four texts, one after the other.
 use Rattle.put.proofs.Writing.{then, room_first, room_next}
 use Rattle.quad_program.specs.Print.{places_line}
-use borrow.Author.Rules.{rules}
 use Rattle.quad_program.proofs.put_places.Goals as goal
 
 pub put_numbered-p-requires : goal.put_numbered-p-requires

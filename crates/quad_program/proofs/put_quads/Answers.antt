@@ -1,11 +1,7 @@
 -- `quad_program::put_quads` meets its contract: the loop's invariant: what is put, and the lines of the quads that are left, come to the whole; and each quad took at most 42 bytes.
-use borrow.Author.Rules.{rules}
 use Rattle.quad_program.proofs.Printing.{lines_more, lines_none, lines_start}
-use Rattle.quad_program.specs.Print.{all_lines}
-use Rattle.put.proofs.Writing.{Going, going_start, going_step, going_end, same_rest}
-use lib.ListN.{drop}
+use Rattle.put.proofs.Writing.{going_start, going_step, going_end, same_rest}
 use native.Mathlib.Omega.{arith}
-use Prim.Native.Nat.{◌+◌, ◌*◌, ◌-◌, ◌≤◌}
 use Rattle.quad_program.proofs.put_quads.Goals as goal
 
 pub loop-i-init : goal.loop-i-init

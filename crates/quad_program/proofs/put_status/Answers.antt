@@ -2,7 +2,6 @@
 use Rattle.quad_program.proofs.Printing.{status_short}
 use Rattle.quad_program.specs.Print.{status_line}
 use native.Mathlib.Omega.{arith}
-use borrow.Author.Rules.{rules}
 use Rattle.quad_program.proofs.put_status.Goals as goal
 
 pub put_decimal_line-requires : goal.put_decimal_line-requires

@@ -1,6 +1,5 @@
 -- `quad_program::read_star` meets its contract: each way out is that of the definition, which reads the same in the same order.
 use Rattle.quad_program.specs.Form.{star_of}
-use borrow.Author.Rules.{rules}
 use Rattle.quad_program.proofs.read_star.Goals as goal
 
 pub returns-in-Wrong : goal.returns-in-Wrong

@@ -1,11 +1,9 @@
 -- `quad_program::read_stars` meets its contract: the loop's invariant: the stars that were read, before those of the lines that are left, are all stars of the text.
-use borrow.Author.Rules.{rules}
-use Rattle.quad_program.proofs.Reading.{before, none_before, star_more, star_full, star_wrong, star_end}
+use Rattle.quad_program.proofs.Reading.{before}
 use Rattle.quad_program.specs.Form.{stars_from}
-use lib.ListN.{length, length-set, take}
-use native.Mathlib.Omega.{arith}
+use lib.ListN.{length, take}
 use Prim.Native.Nat.{◌-◌, ◌≤◌}
-use mathlib.Core.Path.{◌≡◌, sym, ◌∙◌}
+use mathlib.Core.Path.{◌≡◌}
 use Rattle.quad_program.proofs.read_stars.Given as goal
 
 abbrev pub invariant-loop-p : goal.invariant-loop-p

@@ -1,7 +1,6 @@
 -- `quad_spine::find_spine` meets its contract. Assumes nothing.
 use Rattle.quad_stars.specs.Stars.{four_at}
 use Rattle.quad_spine.specs.Spine.{spine_answer}
-use borrow.Author.Rules.{rules}
 use Rattle.quad_spine.proofs.find_spine.Goals as goal
 
 pub returns-in-Refused : goal.returns-in-Refused

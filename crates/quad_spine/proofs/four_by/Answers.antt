@@ -1,5 +1,4 @@
 -- `quad_spine::four_by` meets its contract: each pair has its own order. Assumes nothing.
-use borrow.Author.Rules.{rules}
 use Rattle.quad_spine.proofs.four_by.Goals as goal
 
 pub returns-in-P01 : goal.returns-in-P01

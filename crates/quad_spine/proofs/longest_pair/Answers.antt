@@ -1,5 +1,4 @@
 -- `quad_spine::longest_pair` meets its contract: each pair in its turn, as the definition takes them. Assumes nothing.
-use borrow.Author.Rules.{rules}
 use Rattle.quad_spine.proofs.Pairs.{all_six}
 use Rattle.quad_spine.proofs.longest_pair.Goals as goal
 

@@ -1,7 +1,6 @@
 -- `quad_spine::orient_spine` meets its contract: each return stands for the tests that led there. Assumes nothing.
 use borrow.Author.Tests.{not-true, not-false}
 use Rattle.quad_spine.specs.Spine.{orient_answer}
-use borrow.Author.Rules.{rules}
 use mathlib.Core.Path.{ap}
 use mathlib.Core.Bool.{not}
 use Rattle.quad_spine.proofs.orient_spine.Goals as goal

@@ -1,6 +1,5 @@
 -- `quad_spine::oriented_of` meets its contract: the test picks the same four as the definition. Assumes nothing.
 use Rattle.quad_spine.specs.Spine.{oriented}
-use borrow.Author.Rules.{rules}
 use Rattle.quad_spine.proofs.oriented_of.Goals as goal
 
 pub returns-then-in_order : goal.returns-then-in_order

@@ -1,6 +1,5 @@
 -- `quad_spine::spine_of` meets its contract. Assumes nothing.
 use Rattle.quad_spine.specs.Spine.{spine_of}
-use borrow.Author.Rules.{rules}
 use Rattle.quad_spine.proofs.spine_of.Goals as goal
 
 pub returns : goal.returns

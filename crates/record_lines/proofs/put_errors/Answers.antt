@@ -2,7 +2,6 @@
 use Rattle.record_lines.specs.Parts.{error_lines}
 use Rattle.record_lines.specs.Lines.{text_of}
 use Rattle.put.proofs.Writing.{then, put_none, room_first, room_next}
-use borrow.Author.Rules.{rules}
 use Rattle.record_lines.proofs.put_errors.Goals as goal
 
 pub put_float_line-p-requires : goal.put_float_line-p-requires

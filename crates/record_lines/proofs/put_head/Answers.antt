@@ -3,7 +3,6 @@ use mathlib.Core.Path.{sym}
 use Rattle.record_lines.specs.Lines.{text_of}
 use Rattle.record_lines.proofs.Laws.{head_text}
 use Rattle.put.proofs.Writing.{then, put_none, room_first, room_next, same_room, same_text}
-use borrow.Author.Rules.{rules}
 use Rattle.record_lines.proofs.put_head.Goals as goal
 
 pub put_start-p-requires : goal.put_start-p-requires

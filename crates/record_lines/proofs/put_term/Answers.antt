@@ -2,7 +2,6 @@
 use mathlib.Core.Path.{sym, ◌∙◌}
 use Rattle.record_lines.proofs.Laws.{line_kept, line_dropped}
 use Rattle.put.proofs.Writing.{put_none, same_room, same_text}
-use borrow.Author.Rules.{rules}
 use Rattle.record_lines.proofs.put_term.Goals as goal
 
 pub put_float_line-requires : goal.put_float_line-requires

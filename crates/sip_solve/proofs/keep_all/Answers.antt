@@ -2,13 +2,12 @@
 use borrow.Author.Rules.{rules}
 use Rattle.sip_solve.specs.Solve.{kept_at}
 use Rattle.sip_terms.proofs.Told.{front_at}
-use Rattle.cd_plate.proofs.Filling.{Front, start, again}
+use Rattle.cd_plate.proofs.Filling.{start, again}
 use lib.Ieee.{nan}
 use lib.ListN.{length, drop_of_length-le}
 use native.Mathlib.Omega.{arith}
 use mathlib.Core.List.{append-nil}
 use mathlib.Core.Path.{◌≡◌, ◌∙◌}
-use Prim.Native.Nat.{◌≤◌, ◌-◌}
 use Rattle.sip_solve.proofs.keep_all.Goals as goal
 
 pub loop-k-init : goal.loop-k-init

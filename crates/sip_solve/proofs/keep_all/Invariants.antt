@@ -1,14 +1,9 @@
 -- `sip_solve::keep_all` meets its contract: after k coefficients the first k are as they are handed out. Assumes nothing.
-use borrow.Author.Rules.{rules}
 use Rattle.sip_solve.specs.Solve.{kept_at}
-use Rattle.sip_terms.proofs.Told.{front_at}
-use Rattle.cd_plate.proofs.Filling.{Front, start, again}
-use lib.Ieee.{nan}
-use lib.ListN.{length, drop_of_length-le}
-use native.Mathlib.Omega.{arith}
-use mathlib.Core.List.{append-nil}
-use mathlib.Core.Path.{◌≡◌, ◌∙◌}
-use Prim.Native.Nat.{◌≤◌, ◌-◌}
+use Rattle.cd_plate.proofs.Filling.{Front}
+use lib.ListN.{length}
+use mathlib.Core.Path.{◌≡◌}
+use Prim.Native.Nat.{◌≤◌}
 use Rattle.sip_solve.proofs.keep_all.Given as goal
 
 abbrev pub invariant-loop-k : goal.invariant-loop-k

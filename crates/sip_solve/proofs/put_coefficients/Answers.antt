@@ -1,5 +1,4 @@
 -- `sip_solve::put_coefficients` meets its contract: the unknowns, and then what is kept of them. Assumes nothing.
-use borrow.Author.Rules.{rules}
 use Rattle.sip_solve.proofs.put_coefficients.Goals as goal
 
 pub returns : goal.returns

@@ -8,7 +8,6 @@ use Rattle.cd_plate.specs.Plate.{nothing}
 use Rattle.sip_terms.proofs.Told.{take_replicate}
 use Rattle.sip_solve.specs.Steps.{solve_in}
 use Rattle.sip_solve.proofs.Room.{in_square}
-use borrow.Author.Rules.{rules}
 use Rattle.sip_solve.proofs.solve_both.Goals as goal
 
 pub returns-then-count_on-n : goal.returns-then-count_on-n

@@ -7,7 +7,6 @@ use Rattle.cd_plate.specs.Plate.{nothing}
 use Rattle.elimination_rows.specs.Matrix.{cells}
 use Rattle.sip_sums.specs.Steps.{sums_in}
 use Rattle.sip_solve.proofs.Axes.{axes_solved, axes_stopped}
-use borrow.Author.Rules.{rules}
 use Rattle.sip_solve.proofs.solve_in.Goals as goal
 
 pub put_sums-requires : goal.put_sums-requires

@@ -2,7 +2,6 @@
 use Prim.Native.Nat.{◌+◌}
 use borrow.Author.Tests.{not-true, not-false}
 use Rattle.sip_sums.proofs.Adding.{line_added, line_kept}
-use borrow.Author.Rules.{rules}
 use mathlib.Core.Path.{ap}
 use mathlib.Core.Bool.{not}
 use Rattle.sip_sums.proofs.add_if.Goals as goal

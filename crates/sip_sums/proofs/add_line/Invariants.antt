@@ -1,16 +1,11 @@
 -- `sip_sums::add_line` meets its contract: the rows below i have the line. Assumes nothing.
-use borrow.Author.Rules.{rules}
-use Rattle.sip_sums.proofs.Adding.{lines_none, lines_more, lines_all}
 use Rattle.sip_sums.specs.Steps.{with_line}
 use Rattle.elimination_rows.proofs.Turns.{up_to}
-use Rattle.elimination_rows.proofs.Flat.{in_row}
 use Rattle.elimination_rows.specs.Holds.{Holds}
 use Rattle.elimination_rows.specs.Matrix.{cells}
-use lib.Seq.{length-take-le}
-use lib.ListN.{length, drop, length-drop}
-use native.Mathlib.Omega.{arith}
-use mathlib.Core.Path.{◌≡◌, ◌∙◌, refl, sym}
-use Prim.Native.Nat.{◌≤◌, ◌+◌, ◌-◌, ◌*◌}
+use lib.ListN.{length}
+use mathlib.Core.Path.{◌≡◌}
+use Prim.Native.Nat.{◌≤◌, ◌*◌}
 use Rattle.sip_sums.proofs.add_line.Given as goal
 
 abbrev pub invariant-loop-i : goal.invariant-loop-i

@@ -1,12 +1,11 @@
 -- `sip_sums::add_scaled` meets its contract: the places below k are done, the others as they were. Assumes nothing.
 use borrow.Author.Rules.{rules}
-use Rattle.elimination_rows.proofs.Turns.{Front, front_none, front_next, front_more, front_all}
+use Rattle.elimination_rows.proofs.Turns.{front_none, front_next, front_more, front_all}
 use Rattle.floats.specs.Rounded.{◌⊕◌, ◌⊗◌}
 use lib.Ieee.{Float, nan}
 use lib.ListN.{length, length-set, get_or}
 use native.Mathlib.Omega.{arith}
-use mathlib.Core.Path.{◌≡◌}
-use Prim.Native.Nat.{◌≤◌, ◌<◌, ◌-◌, ℕ}
+use Prim.Native.Nat.{◌<◌, ℕ}
 use Rattle.sip_sums.proofs.add_scaled.Goals as goal
 
 pub loop-k-init : goal.loop-k-init

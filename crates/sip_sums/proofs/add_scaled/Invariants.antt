@@ -1,12 +1,10 @@
 -- `sip_sums::add_scaled` meets its contract: the places below k are done, the others as they were. Assumes nothing.
-use borrow.Author.Rules.{rules}
-use Rattle.elimination_rows.proofs.Turns.{Front, front_none, front_next, front_more, front_all}
+use Rattle.elimination_rows.proofs.Turns.{Front}
 use Rattle.floats.specs.Rounded.{◌⊕◌, ◌⊗◌}
-use lib.Ieee.{Float, nan}
-use lib.ListN.{length, length-set, get_or}
-use native.Mathlib.Omega.{arith}
+use lib.Ieee.{nan}
+use lib.ListN.{length, get_or}
 use mathlib.Core.Path.{◌≡◌}
-use Prim.Native.Nat.{◌≤◌, ◌<◌, ◌-◌, ℕ}
+use Prim.Native.Nat.{◌≤◌}
 use Rattle.sip_sums.proofs.add_scaled.Given as goal
 
 abbrev pub invariant-loop-k : goal.invariant-loop-k

@@ -1,5 +1,4 @@
 -- `sip_sums::offset_at` meets its contract: the row is read, and then seen from the reference pixel. Assumes nothing.
-use borrow.Author.Rules.{rules}
 use Rattle.sip_sums.proofs.offset_at.Goals as goal
 
 pub returns : goal.returns

@@ -1,6 +1,5 @@
 -- `sip_sums::offset_of` meets its contract: both do the same rounded operations. Assumes nothing.
 use Rattle.sip_sums.specs.Field.{offset_of}
-use borrow.Author.Rules.{rules}
 use Rattle.sip_sums.proofs.offset_of.Goals as goal
 
 pub returns : goal.returns

@@ -3,15 +3,13 @@ use lib.Seq.{length-take-le}
 use Rattle.sip_sums.proofs.Adding.{put_none, put_more, put_all}
 use Rattle.sip_sums.specs.Steps.{line_at}
 use Rattle.sip_sums.specs.Field.{offset_at}
-use Rattle.elimination_rows.proofs.Turns.{up_to}
 use Rattle.elimination_rows.proofs.Flat.{in_row}
-use Rattle.elimination_rows.specs.Holds.{Holds}
 use Rattle.elimination_rows.specs.Matrix.{cells}
 use Rattle.rows.specs.Rows.{rows}
 use lib.ListN.{length, drop, length-drop}
 use native.Mathlib.Omega.{arith}
 use mathlib.Core.Path.{◌≡◌, ◌∙◌, refl}
-use Prim.Native.Nat.{◌≤◌, ◌+◌, ◌-◌, ◌*◌}
+use Prim.Native.Nat.{◌+◌, ◌-◌, ◌*◌}
 use borrow.Author.Rules.{rules}
 use Rattle.sip_sums.proofs.put_lines.Goals as goal
 

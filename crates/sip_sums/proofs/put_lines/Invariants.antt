@@ -1,18 +1,13 @@
 -- `sip_sums::put_lines` meets its contract: after k rows the first k lines are put. Assumes nothing.
-use lib.Seq.{length-take-le}
-use Rattle.sip_sums.proofs.Adding.{put_none, put_more, put_all}
 use Rattle.sip_sums.specs.Steps.{line_at}
 use Rattle.sip_sums.specs.Field.{offset_at}
 use Rattle.elimination_rows.proofs.Turns.{up_to}
-use Rattle.elimination_rows.proofs.Flat.{in_row}
 use Rattle.elimination_rows.specs.Holds.{Holds}
 use Rattle.elimination_rows.specs.Matrix.{cells}
 use Rattle.rows.specs.Rows.{rows}
-use lib.ListN.{length, drop, length-drop}
-use native.Mathlib.Omega.{arith}
-use mathlib.Core.Path.{◌≡◌, ◌∙◌, refl}
-use Prim.Native.Nat.{◌≤◌, ◌+◌, ◌-◌, ◌*◌}
-use borrow.Author.Rules.{rules}
+use lib.ListN.{length}
+use mathlib.Core.Path.{◌≡◌}
+use Prim.Native.Nat.{◌≤◌, ◌+◌, ◌*◌}
 use Rattle.sip_sums.proofs.put_lines.Given as goal
 
 abbrev pub invariant-loop-k : goal.invariant-loop-k

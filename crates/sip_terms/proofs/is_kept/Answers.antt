@@ -1,5 +1,4 @@
 -- `sip_terms::is_kept` meets its contract: both do the same test. Assumes nothing.
-use borrow.Author.Rules.{rules}
 use Rattle.sip_terms.proofs.is_kept.Goals as goal
 
 pub returns : goal.returns

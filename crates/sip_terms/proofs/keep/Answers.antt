@@ -1,6 +1,5 @@
 -- `sip_terms::keep` meets its contract: the test decides. Assumes nothing.
 use Rattle.sip_terms.specs.Terms.{kept_of}
-use borrow.Author.Rules.{rules}
 use Rattle.sip_terms.proofs.keep.Goals as goal
 
 pub returns-then-is_kept : goal.returns-then-is_kept

@@ -1,14 +1,10 @@
 -- `sip_terms::put_basis` meets its contract: after i terms the first i places are filled, and the next term is at hand. Assumes nothing.
-use borrow.Author.Rules.{rules}
-use Rattle.cd_plate.proofs.Filling.{Front, start, again}
-use Rattle.sip_terms.proofs.Places.{low_term, term_more}
+use Rattle.cd_plate.proofs.Filling.{Front}
 use Rattle.sip_terms.specs.Steps.{basis_in}
 use Rattle.sip_terms.specs.Terms.{term_at}
-use lib.ListN.{length, drop_of_length-le}
-use native.Mathlib.Omega.{arith}
-use mathlib.Core.List.{append-nil}
-use mathlib.Core.Path.{◌≡◌, ◌∙◌}
-use Prim.Native.Nat.{◌≤◌, ◌-◌}
+use lib.ListN.{length}
+use mathlib.Core.Path.{◌≡◌}
+use Prim.Native.Nat.{◌≤◌}
 use Rattle.sip_terms.proofs.put_basis.Given as goal
 
 abbrev pub invariant-loop-i : goal.invariant-loop-i

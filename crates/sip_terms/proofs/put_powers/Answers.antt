@@ -1,14 +1,13 @@
 -- `sip_terms::put_powers` meets its contract: after k powers the next one is at hand. Assumes nothing.
 use borrow.Author.Rules.{rules}
-use Rattle.cd_plate.proofs.Filling.{Front, start, again}
+use Rattle.cd_plate.proofs.Filling.{start, again}
 use lib.Ieee.{of_bits}
 use Rattle.sip_terms.proofs.Places.{power_more}
 use Rattle.floats.specs.Power.{power_of}
-use lib.ListN.{length, drop_of_length-le}
+use lib.ListN.{drop_of_length-le}
 use native.Mathlib.Omega.{arith}
 use mathlib.Core.List.{append-nil}
 use mathlib.Core.Path.{◌≡◌, ◌∙◌, refl}
-use Prim.Native.Nat.{◌≤◌, ◌-◌}
 use Rattle.sip_terms.proofs.put_powers.Goals as goal
 
 pub loop-k-init : goal.loop-k-init

@@ -1,14 +1,9 @@
 -- `sip_terms::put_powers` meets its contract: after k powers the next one is at hand. Assumes nothing.
-use borrow.Author.Rules.{rules}
-use Rattle.cd_plate.proofs.Filling.{Front, start, again}
-use lib.Ieee.{of_bits}
-use Rattle.sip_terms.proofs.Places.{power_more}
+use Rattle.cd_plate.proofs.Filling.{Front}
 use Rattle.floats.specs.Power.{power_of}
-use lib.ListN.{length, drop_of_length-le}
-use native.Mathlib.Omega.{arith}
-use mathlib.Core.List.{append-nil}
-use mathlib.Core.Path.{◌≡◌, ◌∙◌, refl}
-use Prim.Native.Nat.{◌≤◌, ◌-◌}
+use lib.ListN.{length}
+use mathlib.Core.Path.{◌≡◌}
+use Prim.Native.Nat.{◌≤◌}
 use Rattle.sip_terms.proofs.put_powers.Given as goal
 
 abbrev pub invariant-loop-k : goal.invariant-loop-k

@@ -4,7 +4,6 @@ use Rattle.answer.proofs.Lent.{front}
 use lib.ListN.{length-set}
 use native.Mathlib.Omega.{arith}
 use mathlib.Core.Path.{refl}
-use borrow.Author.Rules.{rules}
 use Rattle.sip_terms.proofs.put_sip.Goals as goal
 
 pub bounds-sums-1 : goal.bounds-sums-1

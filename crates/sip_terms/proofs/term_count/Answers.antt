@@ -3,7 +3,7 @@ use borrow.Author.Rules.{rules}
 use Rattle.sip_terms.specs.Terms.{count_to}
 use native.Mathlib.Omega.{arith}
 use mathlib.Core.Path.{◌≡◌}
-use Prim.Native.Nat.{◌≤◌, ◌+◌, ◌-◌, ◌*◌, suc}
+use Prim.Native.Nat.{◌+◌, ◌-◌, suc}
 use Rattle.sip_terms.proofs.term_count.Goals as goal
 
 pub loop-total-init : goal.loop-total-init

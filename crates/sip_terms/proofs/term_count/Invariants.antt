@@ -1,9 +1,7 @@
 -- `sip_terms::term_count` meets its contract: before total the terms of the lower degrees are counted. Assumes nothing.
-use borrow.Author.Rules.{rules}
 use Rattle.sip_terms.specs.Terms.{count_to}
-use native.Mathlib.Omega.{arith}
 use mathlib.Core.Path.{◌≡◌}
-use Prim.Native.Nat.{◌≤◌, ◌+◌, ◌-◌, ◌*◌, suc}
+use Prim.Native.Nat.{◌≤◌, ◌+◌, ◌-◌, ◌*◌}
 use Rattle.sip_terms.proofs.term_count.Given as goal
 
 abbrev pub invariant-loop-total : goal.invariant-loop-total

@@ -2,12 +2,11 @@
 use lib.Ieee.{nan}
 use Rattle.sip_values.specs.Values.{product_at}
 use Rattle.sip_terms.proofs.Told.{front_at}
-use Rattle.cd_plate.proofs.Filling.{Front, start, again}
+use Rattle.cd_plate.proofs.Filling.{start, again}
 use lib.ListN.{length, drop_of_length-le}
 use native.Mathlib.Omega.{arith}
 use mathlib.Core.List.{append-nil}
 use mathlib.Core.Path.{◌≡◌, ◌∙◌}
-use Prim.Native.Nat.{◌≤◌, ◌-◌}
 use borrow.Author.Rules.{rules}
 use Rattle.sip_values.proofs.add_products.Goals as goal
 

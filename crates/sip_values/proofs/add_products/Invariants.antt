@@ -1,14 +1,9 @@
 -- `sip_values::add_products` meets its contract: after k rows the first k sums have their products. Assumes nothing.
-use lib.Ieee.{nan}
 use Rattle.sip_values.specs.Values.{product_at}
-use Rattle.sip_terms.proofs.Told.{front_at}
-use Rattle.cd_plate.proofs.Filling.{Front, start, again}
-use lib.ListN.{length, drop_of_length-le}
-use native.Mathlib.Omega.{arith}
-use mathlib.Core.List.{append-nil}
-use mathlib.Core.Path.{◌≡◌, ◌∙◌}
-use Prim.Native.Nat.{◌≤◌, ◌-◌}
-use borrow.Author.Rules.{rules}
+use Rattle.cd_plate.proofs.Filling.{Front}
+use lib.ListN.{length}
+use mathlib.Core.Path.{◌≡◌}
+use Prim.Native.Nat.{◌≤◌}
 use Rattle.sip_values.proofs.add_products.Given as goal
 
 abbrev pub invariant-loop-k : goal.invariant-loop-k

@@ -1,15 +1,13 @@
 -- `sip_values::put_column` meets its contract: the powers below p stand in column k. Assumes nothing.
 use lib.Ieee.{of_bits}
-use Rattle.sip_values.proofs.Columns.{column_to, column_none, column_more, column_all}
+use Rattle.sip_values.proofs.Columns.{column_none, column_more, column_all}
 use Rattle.sip_terms.proofs.Places.{power_more}
 use Rattle.elimination_rows.proofs.Flat.{in_cell}
-use Rattle.elimination_rows.specs.Holds.{Holds}
 use Rattle.elimination_rows.specs.Matrix.{cells}
 use Rattle.floats.specs.Power.{power_of}
-use lib.ListN.{length, length-set}
+use lib.ListN.{length-set}
 use native.Mathlib.Omega.{arith}
 use mathlib.Core.Path.{◌≡◌, refl}
-use Prim.Native.Nat.{◌≤◌, ◌<◌, ◌-◌, ◌*◌}
 use borrow.Author.Rules.{rules}
 use Rattle.sip_values.proofs.put_column.Goals as goal
 

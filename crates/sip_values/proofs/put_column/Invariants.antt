@@ -1,16 +1,11 @@
 -- `sip_values::put_column` meets its contract: the powers below p stand in column k. Assumes nothing.
-use lib.Ieee.{of_bits}
-use Rattle.sip_values.proofs.Columns.{column_to, column_none, column_more, column_all}
-use Rattle.sip_terms.proofs.Places.{power_more}
-use Rattle.elimination_rows.proofs.Flat.{in_cell}
+use Rattle.sip_values.proofs.Columns.{column_to}
 use Rattle.elimination_rows.specs.Holds.{Holds}
 use Rattle.elimination_rows.specs.Matrix.{cells}
 use Rattle.floats.specs.Power.{power_of}
-use lib.ListN.{length, length-set}
-use native.Mathlib.Omega.{arith}
-use mathlib.Core.Path.{◌≡◌, refl}
-use Prim.Native.Nat.{◌≤◌, ◌<◌, ◌-◌, ◌*◌}
-use borrow.Author.Rules.{rules}
+use lib.ListN.{length}
+use mathlib.Core.Path.{◌≡◌}
+use Prim.Native.Nat.{◌≤◌, ◌<◌, ◌*◌}
 use Rattle.sip_values.proofs.put_column.Given as goal
 
 abbrev pub invariant-loop-p : goal.invariant-loop-p

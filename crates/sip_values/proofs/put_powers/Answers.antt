@@ -1,13 +1,11 @@
 -- `sip_values::put_powers` meets its contract: after k rows the first k columns of both tables are filled. Assumes nothing.
-use Rattle.sip_values.proofs.Columns.{columns_to, columns_none, columns_more, columns_all}
+use Rattle.sip_values.proofs.Columns.{columns_none, columns_more, columns_all}
 use Rattle.sip_values.specs.Values.{powers_u, powers_v}
-use Rattle.elimination_rows.specs.Holds.{Holds}
 use Rattle.elimination_rows.specs.Matrix.{cells}
 use Rattle.rows.specs.Rows.{rows}
 use lib.ListN.{length}
 use native.Mathlib.Omega.{arith}
 use mathlib.Core.Path.{◌≡◌, ◌∙◌, refl}
-use Prim.Native.Nat.{◌≤◌, ◌-◌, ◌*◌}
 use borrow.Author.Rules.{rules}
 use Rattle.sip_values.proofs.put_powers.Goals as goal
 

@@ -1,14 +1,11 @@
 -- `sip_values::put_values` meets its contract: after i terms the sums are those of the first i. Assumes nothing.
 use Rattle.sip_values.proofs.Summing.{values_none, values_more}
-use Rattle.sip_values.specs.Values.{value_in}
 use Rattle.sip_terms.proofs.Places.{low_term, term_more}
 use Rattle.sip_terms.specs.Terms.{term_at}
 use Rattle.elimination_rows.specs.Matrix.{cells}
-use Rattle.cd_plate.specs.Filled.{filled}
 use lib.ListN.{length}
 use native.Mathlib.Omega.{arith}
 use mathlib.Core.Path.{◌≡◌, ◌∙◌}
-use Prim.Native.Nat.{◌≤◌, ◌-◌}
 use borrow.Author.Rules.{rules}
 use Rattle.sip_values.proofs.put_values.Goals as goal
 

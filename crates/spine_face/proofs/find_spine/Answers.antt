@@ -1,7 +1,6 @@
 -- `spine_face::find_spine` meets its contract: a refusal keeps the list, and a spine goes where there is room. Assumes nothing.
 use Rattle.answer.specs.Answers.{answer_number}
 use mathlib.Core.Path.{refl, ap, ◌∙◌}
-use borrow.Author.Rules.{rules}
 use Rattle.spine_face.proofs.find_spine.Goals as goal
 
 pub returns-in-Refused : goal.returns-in-Refused

@@ -4,7 +4,6 @@ use lib.ListN.{length}
 use Rattle.answer.proofs.Lent.{stays}
 use Rattle.answer.specs.Answers.{answer_number, in_turn}
 use mathlib.Core.Path.{ap, ◌∙◌}
-use borrow.Author.Rules.{rules}
 use Rattle.spine_face.proofs.normalize_quad_ordered.Goals as goal
 
 pub returns-in-Refused : goal.returns-in-Refused

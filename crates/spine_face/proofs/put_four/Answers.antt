@@ -5,7 +5,6 @@ use lib.ListN.{length-set}
 use native.Mathlib.Omega.{arith}
 use mathlib.Core.Path.{refl}
 use borrow.Author.Tests.{lt-ltb, le-ltb}
-use borrow.Author.Rules.{rules}
 use Rattle.spine_face.proofs.put_four.Goals as goal
 
 pub returns-then-out-lt4 : goal.returns-then-out-lt4

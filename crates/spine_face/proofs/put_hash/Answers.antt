@@ -3,7 +3,6 @@ use Rattle.answer.proofs.Lent.{front}
 use Rattle.spine_face.specs.Face.{hash_numbers}
 use lib.ListN.{length-set}
 use native.Mathlib.Omega.{arith}
-use borrow.Author.Rules.{rules}
 use Rattle.spine_face.proofs.put_hash.Goals as goal
 
 pub bounds-out-1 : goal.bounds-out-1

@@ -1,7 +1,6 @@
 -- `spine_face::put_quad` meets its contract: either list without room leaves both, else both are written. Assumes nothing.
 use mathlib.Core.Path.{refl}
 use borrow.Author.Tests.{lt-ltb, le-ltb}
-use borrow.Author.Rules.{rules}
 use Rattle.spine_face.proofs.put_quad.Goals as goal
 
 pub returns-then-hash-lt4 : goal.returns-then-hash-lt4

@@ -3,7 +3,6 @@ use Rattle.answer.proofs.Lent.{front}
 use mathlib.Core.List.{[], ◌∷◌}
 use mathlib.Core.Path.{refl}
 use borrow.Author.Tests.{lt-ltb, le-ltb}
-use borrow.Author.Rules.{rules}
 use Rattle.spine_face.proofs.put_two.Goals as goal
 
 pub returns-then-out-lt2 : goal.returns-then-out-lt2

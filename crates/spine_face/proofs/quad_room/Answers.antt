@@ -1,6 +1,5 @@
 -- `spine_face::quad_room` meets its contract. Assumes nothing.
 use borrow.Author.Tests.{lt-ltb, le-ltb}
-use borrow.Author.Rules.{rules}
 use Rattle.spine_face.proofs.quad_room.Goals as goal
 
 pub returns-then-hash-lt4 : goal.returns-then-hash-lt4

@@ -1,6 +1,5 @@
 -- `verify::count_of` meets its contract: the tests decide, then the calls give what the definition names. Assumes nothing.
 use Rattle.verify.specs.Score.{fit_triple}
-use borrow.Author.Rules.{rules}
 use Rattle.verify.proofs.count_of.Goals as goal
 
 pub returns-then-is_repeated : goal.returns-then-is_repeated

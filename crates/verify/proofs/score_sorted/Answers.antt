@@ -1,7 +1,6 @@
 -- `verify::score_sorted` meets its contract: the fronts of the arrays hold the rows in order. Assumes nothing.
 use Rattle.verify.proofs.Sorting.{front_long, front_sorted, front_few}
 use mathlib.Core.Path.{◌∙◌, sym}
-use borrow.Author.Rules.{rules}
 use Rattle.verify.proofs.score_sorted.Goals as goal
 
 pub slice_bounds-numbers_at-end : goal.slice_bounds-numbers_at-end

@@ -2,13 +2,12 @@
 use borrow.Author.Rules.{rules}
 use Rattle.verify.specs.Score.{fit_triple, limit, start_word, score_of, drawn}
 use Rattle.draw.proofs.Drawing.{triple_in}
-use Rattle.draw.proofs.Holding.{Scoring, scoring_none, scoring_one}
+use Rattle.draw.proofs.Holding.{scoring_none, scoring_one}
 use Rattle.affine.specs.Affine.{agreeing}
 use Rattle.rows.specs.Rows.{rows}
 use lib.ListN.{length}
 use native.Mathlib.Omega.{arith}
 use mathlib.Core.Path.{◌≡◌, ◌∙◌, ap}
-use Prim.Native.Nat.{◌≤◌, ◌-◌}
 use Rattle.verify.proofs.search.Goals as goal
 
 pub loop-init : goal.loop-init

@@ -1,14 +1,10 @@
 -- `verify::search` meets its contract: after so many trials the word and the best count are those of the definition's run. Assumes nothing.
-use borrow.Author.Rules.{rules}
-use Rattle.verify.specs.Score.{fit_triple, limit, start_word, score_of, drawn}
-use Rattle.draw.proofs.Drawing.{triple_in}
-use Rattle.draw.proofs.Holding.{Scoring, scoring_none, scoring_one}
+use Rattle.verify.specs.Score.{fit_triple, limit, start_word}
+use Rattle.draw.proofs.Holding.{Scoring}
 use Rattle.affine.specs.Affine.{agreeing}
 use Rattle.rows.specs.Rows.{rows}
 use lib.ListN.{length}
-use native.Mathlib.Omega.{arith}
-use mathlib.Core.Path.{◌≡◌, ◌∙◌, ap}
-use Prim.Native.Nat.{◌≤◌, ◌-◌}
+use Prim.Native.Nat.{◌≤◌}
 use Rattle.verify.proofs.search.Given as goal
 
 abbrev pub invariant-loop : goal.invariant-loop

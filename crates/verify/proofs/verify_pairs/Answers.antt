@@ -5,7 +5,6 @@ use Rattle.rows.proofs.Passed.{checked}
 use borrow.Author.Tests.{lt-ltb, le-ltb}
 use native.Mathlib.Omega.{arith}
 use mathlib.Core.Path.{◌∙◌, sym}
-use borrow.Author.Rules.{rules}
 use Rattle.verify.proofs.verify_pairs.Goals as goal
 
 pub returns-then-px-lt3 : goal.returns-then-px-lt3

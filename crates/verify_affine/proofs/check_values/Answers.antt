@@ -1,6 +1,5 @@
 -- `verify_affine::check_values` meets its contract: the two tests decide. Assumes nothing.
 use Rattle.verify_affine.specs.Calls.{values_answer}
-use borrow.Author.Rules.{rules}
 use Rattle.verify_affine.proofs.check_values.Goals as goal
 
 pub returns-then-is_affine-is_limit : goal.returns-then-is_affine-is_limit

@@ -2,7 +2,6 @@
 use Rattle.verify_affine.specs.Calls.{inliers_answer}
 use Rattle.rows.proofs.Passed.{checked}
 use mathlib.Core.Path.{◌∙◌, sym}
-use borrow.Author.Rules.{rules}
 use Rattle.verify_affine.proofs.count_affine_inliers.Goals as goal
 
 pub count_agreeing-count-requires : goal.count_agreeing-count-requires

@@ -2,7 +2,6 @@
 use Rattle.verify_affine.specs.Calls.{fit_answer}
 use Rattle.rows.proofs.Passed.{checked}
 use mathlib.Core.Path.{◌∙◌, sym}
-use borrow.Author.Rules.{rules}
 use Rattle.verify_affine.proofs.fit_affine_3pt.Goals as goal
 
 pub fit_places-requires : goal.fit_places-requires

@@ -1,6 +1,5 @@
 -- `verify_affine::fit_places` meets its contract: each test has its own return, then the calls give what the definition names. Assumes nothing.
 use borrow.Author.Tests.{lt-ltb, le-ltb}
-use borrow.Author.Rules.{rules}
 use Rattle.verify_affine.proofs.fit_places.Goals as goal
 
 pub returns-then-n-a : goal.returns-then-n-a

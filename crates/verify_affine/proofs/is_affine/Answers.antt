@@ -1,6 +1,5 @@
 -- `verify_affine::is_affine` meets its contract: the six numbers are tested one by one. Assumes nothing.
 use Rattle.verify_affine.specs.Calls.{is_affine}
-use borrow.Author.Rules.{rules}
 use Rattle.verify_affine.proofs.is_affine.Goals as goal
 
 pub returns : goal.returns

@@ -1,7 +1,6 @@
 -- `verify_face::count_affine_inliers` meets its contract: six numbers make an affine, and then the inner call decides. Assumes nothing.
 use mathlib.Core.Path.{refl}
 use borrow.Author.Tests.{eq-eqb, ne_eqb}
-use borrow.Author.Rules.{rules}
 use Rattle.verify_face.proofs.count_affine_inliers.Goals as goal
 
 pub returns-then-few_rows : goal.returns-then-few_rows

@@ -3,7 +3,6 @@ use lib.ListN.{length-set}
 use native.Mathlib.Omega.{arith}
 use mathlib.Core.Path.{refl}
 use borrow.Author.Tests.{lt-ltb, le-ltb}
-use borrow.Author.Rules.{rules}
 use Rattle.answer.proofs.Lent.{front}
 use Rattle.verify_face.specs.Face.{affine_numbers}
 use Rattle.verify_face.proofs.put_affine.Goals as goal

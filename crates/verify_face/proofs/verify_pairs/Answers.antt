@@ -1,6 +1,5 @@
 -- `verify_face::verify_pairs` meets its contract: the inner call decides, and the score is handed out where it is done. Assumes nothing.
 use mathlib.Core.Path.{refl, sym, ◌∙◌}
-use borrow.Author.Rules.{rules}
 use Rattle.answer.proofs.Numbers.{not_done}
 use Rattle.verify_face.proofs.verify_pairs.Goals as goal
 

@@ -3,7 +3,6 @@ use native.Mathlib.Omega.{arith}
 use lib.ListN.{length-set}
 use Rattle.answer.proofs.Lent.{front}
 use Rattle.wcs.specs.Wcs.{wcs_numbers}
-use borrow.Author.Rules.{rules}
 use Rattle.wcs.proofs.put_wcs.Goals as goal
 
 pub bounds-wcs-1 : goal.bounds-wcs-1

@@ -1,6 +1,5 @@
 -- `affine::Affine::of` meets its contract: both do the same rounded operations. Assumes nothing.
 use Rattle.affine.specs.Affine.{affine_of}
-use borrow.Author.Rules.{rules}
 use Rattle.affine.proofs.Affine.of.Goals as goal
 
 pub returns : goal.returns

@@ -1,7 +1,6 @@
 -- `cd_near::Reach::is_near` meets its contract: the squared error tells. Assumes nothing.
 use Rattle.cd_near.proofs.Squared.{by_square}
 use mathlib.Core.Path.{sym}
-use borrow.Author.Rules.{rules}
 use Rattle.cd_near.proofs.Reach.is_near.Goals as goal
 
 pub returns : goal.returns

@@ -1,6 +1,5 @@
 -- `cd_plate::Cd::inverse` meets its contract: both do the same rounded operations. Assumes nothing.
 use Rattle.cd_plate.specs.Plate.{inverse_of}
-use borrow.Author.Rules.{rules}
 use Rattle.cd_plate.proofs.Cd.inverse.Goals as goal
 
 pub returns : goal.returns

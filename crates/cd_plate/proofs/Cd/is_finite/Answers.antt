@@ -1,6 +1,5 @@
 -- `cd_plate::Cd::is_finite` meets its contract: the six numbers are tested one by one. Assumes nothing.
 use Rattle.cd_plate.specs.Plate.{is_cd}
-use borrow.Author.Rules.{rules}
 use Rattle.cd_plate.proofs.Cd.is_finite.Goals as goal
 
 pub returns : goal.returns

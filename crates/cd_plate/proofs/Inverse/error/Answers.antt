@@ -1,5 +1,4 @@
 -- `cd_plate::Inverse::error` meets its contract: the root of the squared error. Assumes nothing.
-use borrow.Author.Rules.{rules}
 use Rattle.cd_plate.proofs.Inverse.error.Goals as goal
 
 pub returns : goal.returns

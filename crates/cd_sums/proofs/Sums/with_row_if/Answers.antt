@@ -1,6 +1,5 @@
 -- `cd_sums::Sums::with_row_if` meets its contract: a row that is off changes nothing. Assumes nothing.
 use mathlib.Core.Path.{refl}
-use borrow.Author.Rules.{rules}
 use Rattle.cd_sums.proofs.Sums.with_row_if.Goals as goal
 
 pub returns-then-on : goal.returns-then-on

@@ -1,5 +1,4 @@
 -- `quad_normal::Normal::number` meets its contract: each case has its own number. Assumes nothing.
-use borrow.Author.Rules.{rules}
 use Rattle.quad_normal.proofs.Normal.number.Goals as goal
 
 pub returns-in-Hashed : goal.returns-in-Hashed

@@ -1,5 +1,4 @@
 -- `quad_spine::Oriented::number` meets its contract: each case has its own number. Assumes nothing.
-use borrow.Author.Rules.{rules}
 use Rattle.quad_spine.proofs.Oriented.number.Goals as goal
 
 pub returns-in-Pair : goal.returns-in-Pair

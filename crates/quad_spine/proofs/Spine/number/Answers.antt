@@ -1,5 +1,4 @@
 -- `quad_spine::Spine::number` meets its contract: each case has its own number. Assumes nothing.
-use borrow.Author.Rules.{rules}
 use Rattle.quad_spine.proofs.Spine.number.Goals as goal
 
 pub returns-in-Found : goal.returns-in-Found

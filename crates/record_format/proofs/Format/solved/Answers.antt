@@ -1,5 +1,4 @@
 -- `record_format::Format::solved` meets its contract: the test is the definition's. Assumes nothing.
-use borrow.Author.Rules.{rules}
 use Rattle.record_format.proofs.Format.solved.Goals as goal
 
 pub returns-then-self : goal.returns-then-self

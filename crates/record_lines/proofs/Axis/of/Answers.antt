@@ -1,11 +1,9 @@
 -- `record_lines::Axis::of` meets its contract: after i numbers the first i hold those of the list. Assumes nothing.
 use borrow.Author.Rules.{rules}
 use native.Mathlib.Omega.{arith}
-use Prim.Native.Nat.{◌≤◌, ◌-◌}
-use mathlib.Core.Path.{◌≡◌, refl, ◌∙◌}
-use mathlib.Core.List.{map}
+use mathlib.Core.Path.{refl, ◌∙◌}
 use lib.Seq.{take_all}
-use lib.ListN.{length, length-set, take}
+use lib.ListN.{length-set}
 use Rattle.record_format.specs.Formats.{held_by}
 use Rattle.record_lines.proofs.Laws.{held_more}
 use Rattle.record_lines.proofs.Axis.of.Goals as goal

@@ -1,6 +1,5 @@
 -- `sip_terms::Term::next` meets its contract: each return stands for its test. Assumes nothing.
 use borrow.Author.Tests.{eq-eqb, ne_eqb}
-use borrow.Author.Rules.{rules}
 use Rattle.sip_terms.proofs.Term.next.Goals as goal
 
 pub returns-then-self-eq0 : goal.returns-then-self-eq0

@@ -1,6 +1,5 @@
 -- `wcs::Wcs::is_taken` meets its contract: the pixel is tested, then the factors. Assumes nothing.
 use Rattle.wcs.specs.Wcs.{is_wcs}
-use borrow.Author.Rules.{rules}
 use Rattle.wcs.proofs.Wcs.is_taken.Goals as goal
 
 pub returns : goal.returns

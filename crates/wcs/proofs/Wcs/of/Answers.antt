@@ -1,7 +1,6 @@
 -- `wcs::Wcs::of` meets its contract. Assumes nothing.
 use mathlib.Core.Path.{refl}
 use Rattle.wcs.specs.Wcs.{wcs_in}
-use borrow.Author.Rules.{rules}
 use Rattle.wcs.proofs.Wcs.of.Goals as goal
 
 pub returns : goal.returns
