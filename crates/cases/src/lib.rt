@@ -1,41 +1,60 @@
-// What the programs that replay stored cases share: fields of a line that are read, fields of an
-// answer that are printed, both in the form of oracle/README.md.
-ghost use Rattle.std.specs.Prelude.{◌≡◌, ◌≤◌, ◌%◌, length, take, drop};
+// What the programs that replay stored cases share: lines that are read, fields of a line, and fields of an
+// answer that are printed, all in the form of oracle/README.md.
+#![tactic(auto)]
+
+ghost use Rattle.std.specs.Prelude.{◌≡◌, ◌≤◌, ◌%◌, [], ◌∷◌, length, take, drop, Ok, None, IfOk, IfSome, OnOk};
+ghost use Rattle.std.specs.Io.{StopsAt};
+ghost use Rattle.std.specs.Io.BufRead.{take_through};
+ghost use Rattle.std.specs.Io.KnownBytes.{Appends, Consumes, IsAtEnd};
+ghost use Rattle.digits.specs.Digits.{decimal_of};
 ghost use Rattle.scan_digits.specs.Read.{read_decimal};
+ghost use Rattle.cases.specs.Lists.{float_text, comma_before, dash_for, list_field};
 ghost use Rattle.cases.specs.Fields.{after_space, field_after, float_at, number_at, after_member, member_after};
 
-use libc::{STDIN_FILENO, STDOUT_FILENO};
 use scan::Place;
 use scan_digits::Number;
+use std::io;
+use std::io::{BufRead, Write};
 
 // ---- lines
 
-// The next byte of standard input, or 256 at its end.
-fn next_byte() -> u64 {
-    let mut one = [0u8; 1];
-    if io::read_full(STDIN_FILENO, &mut one) == 0 {
-        return 256;
+// The next byte of a stream; none at its end.
+fn next_byte<R: BufRead>(input: &mut R) -> io::Result<Option<u8>>
+    ensures some { IfOk result (λ b. IfSome b (λ x. Consumes (R.remaining input.old) (R.remaining input.new) (x ∷ []))) }
+    ensures none { result ≡ Ok None → Consumes (R.remaining input.old) (R.remaining input.new) [] }
+    ensures end { result ≡ Ok None → IsAtEnd (R.remaining input.old) }
+{
+    let ahead = input.fill_buf()?;
+    if ahead.is_empty() {
+        return Ok(None);
     }
-    wide(one[0])
+    let b = ahead[0];
+    input.consume(1);
+    Ok(Some(b))
 }
 
-// Reads the next line of standard input with its newline, as far as there is room, and says how long it is.
-pub fn read_line(out: &mut [u8]) -> usize
-    ensures { (result ≤ length out.new) × (result ≡ length (take result out.new)) }
+// Reads the next line of a stream with its newline, as far as there is room, and says how long it is. After an
+// error the list still has its length, and a part of the line may be read.
+pub fn read_line<R: BufRead>(input: &mut R, out: &mut [u8]) -> io::Result<usize>
+    ensures length { IfOk result (λ n. (n ≤ length out.new) × (n ≡ length (take n out.new))) }
+    ensures bytes { IfOk result (λ n. Consumes (R.remaining input.old) (R.remaining input.new) (take n out.new)) }
+    ensures line { IfOk result (λ n. IfSome (R.remaining input.old)
+        (λ xs. take n out.new ≡ take_through 10 (take (length out.new) xs))) }
+    ensures stops { IfOk result (λ n. StopsAt (take n out.new) 10) }
+    ensures room { length out.new ≡ length out.old }
 {
     let mut n = 0usize;
     while n < out.len() {
-        let b = next_byte();
-        if 255 < b {
-            return n;
-        }
-        out[n] = (b % 256) as u8;
+        let Some(b) = next_byte(input)? else {
+            return Ok(n);
+        };
+        out[n] = b;
         n += 1;
         if b == 10 {
-            return n;
+            return Ok(n);
         }
     }
-    n
+    Ok(n)
 }
 
 // ---- fields
@@ -289,101 +308,122 @@ pub fn words_at(s: &[u8], at: usize, out: &mut [u64]) -> usize
 
 // ---- answers
 
-pub fn print_number(n: u64)
-    ensures { result ≡ tt }
+// Each of these writes to the stream, and promises what on `Ok` the stream has more; an error may leave a part.
+
+pub fn print_number<W: Write>(out: &mut W, n: u64) -> io::Result<()>
+    ensures { OnOk result (Appends (W.contents out.old) (W.contents out.new) (decimal_of n)) }
 {
-    io::print_decimal(STDOUT_FILENO, n);
+    // As many bytes as the longest number has.
+    let mut text = [0u8; 20];
+    let end = digits::put_decimal(&mut text, 0, n);
+    out.write_all(&text[..end])
 }
 
 // Between two fields.
-pub fn print_space()
-    ensures { result ≡ tt }
+pub fn print_space<W: Write>(out: &mut W) -> io::Result<()>
+    ensures { OnOk result (Appends (W.contents out.old) (W.contents out.new) (32 ∷ [])) }
 {
-    io::write_all(STDOUT_FILENO, b" ");
+    out.write_all(b" ")
 }
 
 // A number after the field before it.
-pub fn print_field(n: u64)
-    ensures { result ≡ tt }
+pub fn print_field<W: Write>(out: &mut W, n: u64) -> io::Result<()>
+    ensures { OnOk result (Appends (W.contents out.old) (W.contents out.new) (32 ∷ decimal_of n)) }
 {
-    print_space();
-    print_number(n);
+    print_space(out)?;
+    print_number(out, n)
 }
 
-pub fn print_end()
-    ensures { result ≡ tt }
+pub fn print_end<W: Write>(out: &mut W) -> io::Result<()>
+    ensures { OnOk result (Appends (W.contents out.old) (W.contents out.new) (10 ∷ [])) }
 {
-    io::write_all(STDOUT_FILENO, b"\n");
+    out.write_all(b"\n")
 }
 
 // What stands before the member of a list at a place.
-fn print_comma(at: usize) {
-    if 0 < at {
-        io::write_all(STDOUT_FILENO, b",");
+fn print_comma<W: Write>(out: &mut W, at: usize) -> io::Result<()>
+    ensures { OnOk result (Appends (W.contents out.old) (W.contents out.new) (comma_before at)) }
+{
+    if at == 0 {
+        return Ok(());
     }
+    out.write_all(b",")
 }
 
 // What stands for a list of no members.
-fn print_empty(n: usize) {
-    if n == 0 {
-        io::write_all(STDOUT_FILENO, b"-");
+fn print_empty<W: Write>(out: &mut W, n: usize) -> io::Result<()>
+    ensures { OnOk result (Appends (W.contents out.old) (W.contents out.new) (dash_for n)) }
+{
+    if 0 < n {
+        return Ok(());
     }
+    out.write_all(b"-")
 }
 
-fn wide(b: u8) -> u64 {
+fn wide(b: u8) -> u64
+    ensures { result ≡ b }
+{
     b as u64
 }
 
-pub fn print_bytes(list: &[u8])
-    ensures { result ≡ tt }
+pub fn print_bytes<W: Write>(out: &mut W, list: &[u8]) -> io::Result<()>
+    ensures { OnOk result (Appends (W.contents out.old) (W.contents out.new) (list_field decimal_of list.now)) }
 {
-    print_space();
-    print_empty(list.len());
+    print_space(out)?;
+    print_empty(out, list.len())?;
     for i in 0..list.len() {
-        print_comma(i);
-        print_number(wide(list[i]));
+        print_comma(out, i)?;
+        print_number(out, wide(list[i]))?;
     }
+    Ok(())
 }
 
-fn wide_u32(n: u32) -> u64 {
+fn wide_u32(n: u32) -> u64
+    ensures { result ≡ n }
+{
     n as u64
 }
 
-pub fn print_u32s(list: &[u32])
-    ensures { result ≡ tt }
+pub fn print_u32s<W: Write>(out: &mut W, list: &[u32]) -> io::Result<()>
+    ensures { OnOk result (Appends (W.contents out.old) (W.contents out.new) (list_field decimal_of list.now)) }
 {
-    print_space();
-    print_empty(list.len());
+    print_space(out)?;
+    print_empty(out, list.len())?;
     for i in 0..list.len() {
-        print_comma(i);
-        print_number(wide_u32(list[i]));
+        print_comma(out, i)?;
+        print_number(out, wide_u32(list[i]))?;
     }
+    Ok(())
 }
 
-pub fn print_words(list: &[u64])
-    ensures { result ≡ tt }
+pub fn print_words<W: Write>(out: &mut W, list: &[u64]) -> io::Result<()>
+    ensures { OnOk result (Appends (W.contents out.old) (W.contents out.new) (list_field decimal_of list.now)) }
 {
-    print_space();
-    print_empty(list.len());
+    print_space(out)?;
+    print_empty(out, list.len())?;
     for i in 0..list.len() {
-        print_comma(i);
-        print_number(list[i]);
+        print_comma(out, i)?;
+        print_number(out, list[i])?;
     }
+    Ok(())
 }
 
-pub fn print_float(x: f64)
-    ensures { result ≡ tt }
+pub fn print_float<W: Write>(out: &mut W, x: f64) -> io::Result<()>
+    ensures { OnOk result (Appends (W.contents out.old) (W.contents out.new) (float_text x)) }
 {
-    io::print_hex(STDOUT_FILENO, digits::bits_of(x), 16);
+    let mut text = [0u8; 16];
+    digits::put_hex(&mut text, 0, digits::bits_of(x));
+    out.write_all(&text)
 }
 
-pub fn print_floats(list: &[f64])
-    ensures { result ≡ tt }
+pub fn print_floats<W: Write>(out: &mut W, list: &[f64]) -> io::Result<()>
+    ensures { OnOk result (Appends (W.contents out.old) (W.contents out.new) (list_field float_text list.now)) }
 {
-    print_space();
-    print_empty(list.len());
+    print_space(out)?;
+    print_empty(out, list.len())?;
     for i in 0..list.len() {
-        print_comma(i);
-        print_float(list[i]);
+        print_comma(out, i)?;
+        print_float(out, list[i])?;
     }
+    Ok(())
 }

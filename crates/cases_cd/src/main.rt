@@ -1,22 +1,34 @@
 // Replays cases of the solvers: a case a line on standard input, its answer a line on standard output,
 // in the form of oracle/README.md. A lent output starts filled with the byte a5, as there.
-use libc::{STDIN_FILENO, STDOUT_FILENO};
+#![tactic(auto)]
+
 use scan::Place;
+use std::io;
+use std::io::{Stdout, Write};
 
 // ---- calls on rows
 
-fn print_answer(number: u32, list: &[f64]) {
-    cases::print_number(number as u64);
-    cases::print_floats(list);
-    cases::print_end();
+fn print_answer(out: &mut Stdout, number: u32, list: &[f64]) -> io::Result<()> {
+    cases::print_number(out, number as u64)?;
+    cases::print_floats(out, list)?;
+    cases::print_end(out)
 }
 
-fn call_fit(px: &[f64], py: &[f64], xi: &[f64], eta: &[f64], mask: &[u8], cd: &mut [f64]) {
+fn call_fit(
+    out: &mut Stdout,
+    px: &[f64],
+    py: &[f64],
+    xi: &[f64],
+    eta: &[f64],
+    mask: &[u8],
+    cd: &mut [f64],
+) -> io::Result<()> {
     let number = fit_face::fit_cd_matrix_6(px, py, xi, eta, mask, cd);
-    print_answer(number, cd);
+    print_answer(out, number, cd)
 }
 
 fn fit_cd_matrix_6(
+    out: &mut Stdout,
     s: &[u8],
     at: usize,
     px: &[f64],
@@ -24,14 +36,15 @@ fn fit_cd_matrix_6(
     xi: &[f64],
     eta: &[f64],
     mask: &[u8],
-) {
+) -> io::Result<()> {
     let pattern = scan_digits::of_bits(0xa5a5a5a5a5a5a5a5);
     let mut cd = [pattern; 16];
     let room = cases::floats_room(s, cases::field(s, at, 5), &cd);
-    call_fit(px, py, xi, eta, mask, &mut cd[..room]);
+    call_fit(out, px, py, xi, eta, mask, &mut cd[..room])
 }
 
 fn call_weighted(
+    out: &mut Stdout,
     px: &[f64],
     py: &[f64],
     xi: &[f64],
@@ -39,12 +52,13 @@ fn call_weighted(
     mask: &[u8],
     weights: &[f64],
     cd: &mut [f64],
-) {
+) -> io::Result<()> {
     let number = fit_face::fit_cd_weighted(px, py, xi, eta, mask, weights, cd);
-    print_answer(number, cd);
+    print_answer(out, number, cd)
 }
 
 fn fit_cd_weighted(
+    out: &mut Stdout,
     s: &[u8],
     at: usize,
     px: &[f64],
@@ -52,16 +66,17 @@ fn fit_cd_weighted(
     xi: &[f64],
     eta: &[f64],
     mask: &[u8],
-) {
+) -> io::Result<()> {
     let pattern = scan_digits::of_bits(0xa5a5a5a5a5a5a5a5);
     let mut weights = [0.0; 101];
     let n = cases::floats_at(s, cases::field(s, at, 5), &mut weights);
     let mut cd = [pattern; 16];
     let room = cases::floats_room(s, cases::field(s, at, 6), &cd);
-    call_weighted(px, py, xi, eta, mask, &weights[..n], &mut cd[..room]);
+    call_weighted(out, px, py, xi, eta, mask, &weights[..n], &mut cd[..room])
 }
 
 fn call_errors(
+    out: &mut Stdout,
     px: &[f64],
     py: &[f64],
     xi: &[f64],
@@ -69,12 +84,13 @@ fn call_errors(
     mask: &[u8],
     cd: &[f64],
     errors: &mut [f64],
-) {
+) -> io::Result<()> {
     let number = errors_face::compute_pixel_errors(px, py, xi, eta, mask, cd, errors);
-    print_answer(number, errors);
+    print_answer(out, number, errors)
 }
 
 fn compute_pixel_errors(
+    out: &mut Stdout,
     s: &[u8],
     at: usize,
     px: &[f64],
@@ -82,16 +98,17 @@ fn compute_pixel_errors(
     xi: &[f64],
     eta: &[f64],
     mask: &[u8],
-) {
+) -> io::Result<()> {
     let pattern = scan_digits::of_bits(0xa5a5a5a5a5a5a5a5);
     let mut cd = [0.0; 16];
     let n = cases::floats_at(s, cases::field(s, at, 5), &mut cd);
     let mut errors = [pattern; 101];
     let room = cases::floats_room(s, cases::field(s, at, 6), &errors);
-    call_errors(px, py, xi, eta, mask, &cd[..n], &mut errors[..room]);
+    call_errors(out, px, py, xi, eta, mask, &cd[..n], &mut errors[..room])
 }
 
 fn call_residuals(
+    out: &mut Stdout,
     px: &[f64],
     py: &[f64],
     xi: &[f64],
@@ -100,7 +117,7 @@ fn call_residuals(
     err_x: &mut [f64],
     err_y: &mut [f64],
     err_px: &mut [f64],
-) {
+) -> io::Result<()> {
     let mut residuals = 0xa5a5a5a5a5a5a5a5u64;
     let number = errors_face::compute_residuals(
         px,
@@ -113,15 +130,23 @@ fn call_residuals(
         err_px,
         &mut residuals,
     );
-    cases::print_number(number as u64);
-    cases::print_floats(err_x);
-    cases::print_floats(err_y);
-    cases::print_floats(err_px);
-    cases::print_field(residuals);
-    cases::print_end();
+    cases::print_number(out, number as u64)?;
+    cases::print_floats(out, err_x)?;
+    cases::print_floats(out, err_y)?;
+    cases::print_floats(out, err_px)?;
+    cases::print_field(out, residuals)?;
+    cases::print_end(out)
 }
 
-fn compute_residuals(s: &[u8], at: usize, px: &[f64], py: &[f64], xi: &[f64], eta: &[f64]) {
+fn compute_residuals(
+    out: &mut Stdout,
+    s: &[u8],
+    at: usize,
+    px: &[f64],
+    py: &[f64],
+    xi: &[f64],
+    eta: &[f64],
+) -> io::Result<()> {
     let pattern = scan_digits::of_bits(0xa5a5a5a5a5a5a5a5);
     let mut wcs = [0.0; 16];
     let n = cases::floats_at(s, cases::field(s, at, 4), &mut wcs);
@@ -133,6 +158,7 @@ fn compute_residuals(s: &[u8], at: usize, px: &[f64], py: &[f64], xi: &[f64], et
     let b = cases::floats_room(s, cases::member(s, rooms, 1), &y);
     let c = cases::floats_room(s, cases::member(s, rooms, 2), &all);
     call_residuals(
+        out,
         px,
         py,
         xi,
@@ -141,42 +167,42 @@ fn compute_residuals(s: &[u8], at: usize, px: &[f64], py: &[f64], xi: &[f64], et
         &mut x[..a],
         &mut y[..b],
         &mut all[..c],
-    );
+    )
 }
 
 // ---- calls without rows
 
-fn print_rms(number: u32, rms: f64) {
-    cases::print_number(number as u64);
-    cases::print_space();
-    cases::print_float(rms);
-    cases::print_end();
+fn print_rms(out: &mut Stdout, number: u32, rms: f64) -> io::Result<()> {
+    cases::print_number(out, number as u64)?;
+    cases::print_space(out)?;
+    cases::print_float(out, rms)?;
+    cases::print_end(out)
 }
 
-fn rms_error(s: &[u8], at: usize) {
+fn rms_error(out: &mut Stdout, s: &[u8], at: usize) -> io::Result<()> {
     let mut errors = [0.0; 101];
     let n = cases::floats_at(s, at, &mut errors);
     let mut rms = scan_digits::of_bits(0xa5a5a5a5a5a5a5a5);
     let number = errors_face::rms_error(&errors[..n], &mut rms);
-    print_rms(number, rms);
+    print_rms(out, number, rms)
 }
 
-fn weighted_rms_error(s: &[u8], at: usize) {
+fn weighted_rms_error(out: &mut Stdout, s: &[u8], at: usize) -> io::Result<()> {
     let mut errors = [0.0; 101];
     let mut weights = [0.0; 102];
     let n = cases::floats_at(s, at, &mut errors);
     let m = cases::floats_at(s, cases::field(s, at, 1), &mut weights);
     let mut rms = scan_digits::of_bits(0xa5a5a5a5a5a5a5a5);
     let number = errors_face::weighted_rms_error(&errors[..n], &weights[..m], &mut rms);
-    print_rms(number, rms);
+    print_rms(out, number, rms)
 }
 
-fn call_solve(a: &[f64], b: &[f64], n: u32, x: &mut [f64]) {
+fn call_solve(out: &mut Stdout, a: &[f64], b: &[f64], n: u32, x: &mut [f64]) -> io::Result<()> {
     let number = fit_face::solve_normal_equations(a, b, n, x);
-    print_answer(number, x);
+    print_answer(out, number, x)
 }
 
-fn solve_normal_equations(s: &[u8], at: usize) {
+fn solve_normal_equations(out: &mut Stdout, s: &[u8], at: usize) -> io::Result<()> {
     let pattern = scan_digits::of_bits(0xa5a5a5a5a5a5a5a5);
     let mut a = [0.0; 3025];
     let mut b = [0.0; 101];
@@ -185,37 +211,52 @@ fn solve_normal_equations(s: &[u8], at: usize) {
     let q = cases::floats_at(s, cases::field(s, at, 1), &mut b);
     let n = cases::word_at(s, cases::field(s, at, 2));
     let room = cases::floats_room(s, cases::field(s, at, 3), &x);
-    call_solve(&a[..p], &b[..q], n, &mut x[..room]);
+    call_solve(out, &a[..p], &b[..q], n, &mut x[..room])
 }
 
 // ---- lines
 
 // Answers a case of rows with a mask, whose call has a number.
-fn answer_masked(s: &[u8], at: usize, call: u8, px: &[f64], py: &[f64], xi: &[f64], eta: &[f64]) {
+fn answer_masked(
+    out: &mut Stdout,
+    s: &[u8],
+    at: usize,
+    call: u8,
+    px: &[f64],
+    py: &[f64],
+    xi: &[f64],
+    eta: &[f64],
+) -> io::Result<()> {
     let mut mask = [0u8; 101];
     let n = cases::bytes_at(s, cases::field(s, at, 4), &mut mask);
     if call == 0 {
-        fit_cd_matrix_6(s, at, px, py, xi, eta, &mask[..n]);
-        return;
+        return fit_cd_matrix_6(out, s, at, px, py, xi, eta, &mask[..n]);
     }
     if call == 1 {
-        fit_cd_weighted(s, at, px, py, xi, eta, &mask[..n]);
-        return;
+        return fit_cd_weighted(out, s, at, px, py, xi, eta, &mask[..n]);
     }
-    compute_pixel_errors(s, at, px, py, xi, eta, &mask[..n]);
+    compute_pixel_errors(out, s, at, px, py, xi, eta, &mask[..n])
 }
 
 // Answers a case of rows.
-fn answer_rows(s: &[u8], at: usize, call: u8, px: &[f64], py: &[f64], xi: &[f64], eta: &[f64]) {
+fn answer_rows(
+    out: &mut Stdout,
+    s: &[u8],
+    at: usize,
+    call: u8,
+    px: &[f64],
+    py: &[f64],
+    xi: &[f64],
+    eta: &[f64],
+) -> io::Result<()> {
     if call == 3 {
-        compute_residuals(s, at, px, py, xi, eta);
-        return;
+        return compute_residuals(out, s, at, px, py, xi, eta);
     }
-    answer_masked(s, at, call, px, py, xi, eta);
+    answer_masked(out, s, at, call, px, py, xi, eta)
 }
 
 // Every case of rows begins with the four lists.
-fn read_rows(s: &[u8], at: usize, call: u8) {
+fn read_rows(out: &mut Stdout, s: &[u8], at: usize, call: u8) -> io::Result<()> {
     let mut px = [0.0; 101];
     let mut py = [0.0; 101];
     let mut xi = [0.0; 101];
@@ -224,57 +265,51 @@ fn read_rows(s: &[u8], at: usize, call: u8) {
     let b = cases::floats_at(s, cases::field(s, at, 1), &mut py);
     let c = cases::floats_at(s, cases::field(s, at, 2), &mut xi);
     let d = cases::floats_at(s, cases::field(s, at, 3), &mut eta);
-    answer_rows(s, at, call, &px[..a], &py[..b], &xi[..c], &eta[..d]);
+    answer_rows(out, s, at, call, &px[..a], &py[..b], &xi[..c], &eta[..d])
 }
 
 // Answers the case that starts at a place; a line that is no case has the answer "?".
-fn answer(s: &[u8], at: usize) {
+fn answer(out: &mut Stdout, s: &[u8], at: usize) -> io::Result<()> {
     if let Place::Next(p) = scan::read_bytes(s, at, b"fit_cd_matrix_6 ") {
-        read_rows(s, p, 0);
-        return;
+        return read_rows(out, s, p, 0);
     }
     if let Place::Next(p) = scan::read_bytes(s, at, b"fit_cd_weighted ") {
-        read_rows(s, p, 1);
-        return;
+        return read_rows(out, s, p, 1);
     }
     if let Place::Next(p) = scan::read_bytes(s, at, b"compute_pixel_errors ") {
-        read_rows(s, p, 2);
-        return;
+        return read_rows(out, s, p, 2);
     }
     if let Place::Next(p) = scan::read_bytes(s, at, b"compute_residuals ") {
-        read_rows(s, p, 3);
-        return;
+        return read_rows(out, s, p, 3);
     }
     if let Place::Next(p) = scan::read_bytes(s, at, b"rms_error ") {
-        rms_error(s, p);
-        return;
+        return rms_error(out, s, p);
     }
     if let Place::Next(p) = scan::read_bytes(s, at, b"weighted_rms_error ") {
-        weighted_rms_error(s, p);
-        return;
+        return weighted_rms_error(out, s, p);
     }
     if let Place::Next(p) = scan::read_bytes(s, at, b"solve_normal_equations ") {
-        solve_normal_equations(s, p);
-        return;
+        return solve_normal_equations(out, s, p);
     }
-    io::write_all(STDOUT_FILENO, b"?\n");
+    out.write_all(b"?\n")
 }
 
 // Answers each line.
-fn answer_all(s: &[u8]) {
+fn answer_all(out: &mut Stdout, s: &[u8]) -> io::Result<()> {
     let mut at = 0;
     while at < s.len() {
-        answer(s, at);
+        answer(out, s, at)?;
         let end = scan::line_end(s, at);
         if s.len() <= end {
-            return;
+            return Ok(());
         }
         at = end + 1;
     }
+    Ok(())
 }
 
-fn main() {
+fn main(rt: HostRuntime) -> io::Result<()> {
     let mut cases = [0u8; 524288];
-    let n = io::read_full(STDIN_FILENO, &mut cases);
-    answer_all(&cases[..n]);
+    let n = streams::read_full(&mut rt.stdin(), &mut cases)?;
+    answer_all(&mut rt.stdout(), &cases[..n])
 }

@@ -1,8 +1,11 @@
 // Replays cases of the float helpers: a case a line on standard input, its answer a line on
 // standard output, in the form of oracle/README.md.
-use libc::{STDIN_FILENO, STDOUT_FILENO};
+#![tactic(auto)]
+
 use scan::Place;
 use scan_digits::Number;
+use std::io;
+use std::io::{Stdout, Write};
 
 // The float at a place; NaN where no 16 digits stand there.
 fn float_at(s: &[u8], at: usize) -> f64 {
@@ -26,56 +29,53 @@ fn number_after(s: &[u8], at: usize) -> u64 {
     }
 }
 
-fn print_float(x: f64) {
+fn print_float(out: &mut Stdout, x: f64) -> io::Result<()> {
     let mut line = [0u8; 17];
     text::put_float_line(&mut line, 0, b"", x);
-    io::write_all(STDOUT_FILENO, &line);
+    out.write_all(&line)
 }
 
-fn print_signed(n: i32) {
+fn print_signed(out: &mut Stdout, n: i32) -> io::Result<()> {
     let mut line = [0u8; 22];
     let p = digits::put_signed(&mut line, 0, n as i64);
     let q = put::put_byte(&mut line, p, 10);
-    io::write_all(STDOUT_FILENO, &line[..q]);
+    out.write_all(&line[..q])
 }
 
 // Answers the case that starts at a place; a line that is no case has the answer "?".
-fn answer(s: &[u8], at: usize) {
+fn answer(out: &mut Stdout, s: &[u8], at: usize) -> io::Result<()> {
     if let Place::Next(p) = scan::read_bytes(s, at, b"magnitude ") {
-        print_float(floats::magnitude(float_at(s, p)));
-        return;
+        return print_float(out, floats::magnitude(float_at(s, p)));
     }
     if let Place::Next(p) = scan::read_bytes(s, at, b"floor ") {
-        print_signed(floats::floor(float_at(s, p)));
-        return;
+        return print_signed(out, floats::floor(float_at(s, p)));
     }
     if let Place::Next(p) = scan::read_bytes(s, at, b"root ") {
-        print_float(root::root(float_at(s, p)));
-        return;
+        return print_float(out, root::root(float_at(s, p)));
     }
     if let Place::Next(p) = scan::read_bytes(s, at, b"power ") {
         let exponent = (number_after(s, p) % 4294967296) as u32;
-        print_float(floats::power(float_at(s, p), exponent));
-        return;
+        return print_float(out, floats::power(float_at(s, p), exponent));
     }
-    io::write_all(STDOUT_FILENO, b"?\n");
+    out.write_all(b"?\n")
 }
 
 // Answers each line.
-fn answer_all(s: &[u8]) {
+fn answer_all(out: &mut Stdout, s: &[u8]) -> io::Result<()> {
     let mut at = 0;
     while at < s.len() {
-        answer(s, at);
+        answer(out, s, at)?;
         let end = scan::line_end(s, at);
         if s.len() <= end {
-            return;
+            return Ok(());
         }
         at = end + 1;
     }
+    Ok(())
 }
 
-fn main() {
+fn main(rt: HostRuntime) -> io::Result<()> {
     let mut cases = [0u8; 131072];
-    let n = io::read_full(STDIN_FILENO, &mut cases);
-    answer_all(&cases[..n]);
+    let n = streams::read_full(&mut rt.stdin(), &mut cases)?;
+    answer_all(&mut rt.stdout(), &cases[..n])
 }

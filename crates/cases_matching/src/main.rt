@@ -1,99 +1,108 @@
 // Replays cases of the index, the searches, the votes and the affine score: a case a line on standard
 // input, its answer a line on standard output, in the form of oracle/README.md. A lent output starts
 // filled with the byte a5, as there.
-use libc::STDOUT_FILENO;
+#![tactic(auto)]
+
 use scan::Place;
+use std::io;
+use std::io::{Stdout, Write};
 
 // ---- the index and the searches
 
-fn build_hash_index(s: &[u8], at: usize) {
+fn build_hash_index(out: &mut Stdout, s: &[u8], at: usize) -> io::Result<()> {
     let mut hashes = [0.0; 1024];
     let mut table = [0xa5a5a5a5a5a5a5a5u64; 1024];
     let n = cases::floats_at(s, at, &mut hashes);
     let room = cases::words_room(s, cases::field(s, at, 1), &table);
-    call_build_hash_index(&hashes[..n], &mut table[..room]);
+    call_build_hash_index(out, &hashes[..n], &mut table[..room])
 }
 
-fn call_build_hash_index(hashes: &[f64], table: &mut [u64]) {
+fn call_build_hash_index(out: &mut Stdout, hashes: &[f64], table: &mut [u64]) -> io::Result<()> {
     let number = matching_face::build_hash_index(hashes, table);
-    cases::print_number(number as u64);
-    cases::print_words(table);
-    cases::print_end();
+    cases::print_number(out, number as u64)?;
+    cases::print_words(out, table)?;
+    cases::print_end(out)
 }
 
-fn print_matches(number: u32, matches: &[u8], found: u64) {
-    cases::print_number(number as u64);
-    cases::print_bytes(matches);
-    cases::print_field(found);
-    cases::print_end();
+fn print_matches(out: &mut Stdout, number: u32, matches: &[u8], found: u64) -> io::Result<()> {
+    cases::print_number(out, number as u64)?;
+    cases::print_bytes(out, matches)?;
+    cases::print_field(out, found)?;
+    cases::print_end(out)
 }
 
 fn call_find_matches(
+    out: &mut Stdout,
     places: &[u8],
     hashes: &[f64],
     catalogue: &[u8],
     others: &[f64],
     matches: &mut [u8],
-) {
+) -> io::Result<()> {
     let mut found = 0xa5a5a5a5a5a5a5a5u64;
     let number = matching_face::find_matches(
         places, hashes, catalogue, others, matches, &mut found,
     );
-    print_matches(number, matches, found);
+    print_matches(out, number, matches, found)
 }
 
 fn lend_find_matches(
+    out: &mut Stdout,
     s: &[u8],
     at: usize,
     places: &[u8],
     hashes: &[f64],
     catalogue: &[u8],
     others: &[f64],
-) {
+) -> io::Result<()> {
     let mut matches = [0xa5u8; 4096];
     let room = cases::bytes_room(s, cases::field(s, at, 4), &matches);
-    call_find_matches(places, hashes, catalogue, others, &mut matches[..room]);
+    call_find_matches(out, places, hashes, catalogue, others, &mut matches[..room])
 }
 
 fn call_find_matches_indexed(
+    out: &mut Stdout,
     places: &[u8],
     hashes: &[f64],
     catalogue: &[u8],
     others: &[f64],
     table: &[u64],
     matches: &mut [u8],
-) {
+) -> io::Result<()> {
     let mut found = 0xa5a5a5a5a5a5a5a5u64;
     let number = matching_face::find_matches_indexed(
         places, hashes, catalogue, others, table, matches, &mut found,
     );
-    print_matches(number, matches, found);
+    print_matches(out, number, matches, found)
 }
 
 fn lend_find_matches_indexed(
+    out: &mut Stdout,
     s: &[u8],
     at: usize,
     places: &[u8],
     hashes: &[f64],
     catalogue: &[u8],
     others: &[f64],
-) {
+) -> io::Result<()> {
     let mut table = [0u64; 1024];
     let mut matches = [0xa5u8; 4096];
     let n = cases::words_at(s, cases::field(s, at, 4), &mut table);
     let room = cases::bytes_room(s, cases::field(s, at, 5), &matches);
-    call_find_matches_indexed(
+    return call_find_matches_indexed(
+        out,
         places,
         hashes,
         catalogue,
         others,
         &table[..n],
         &mut matches[..room],
-    );
+    )
 }
 
 // Answers the case of quads by the index, or by the plain search.
 fn answer_quads(
+    out: &mut Stdout,
     s: &[u8],
     at: usize,
     indexed: bool,
@@ -101,16 +110,15 @@ fn answer_quads(
     hashes: &[f64],
     catalogue: &[u8],
     others: &[f64],
-) {
+) -> io::Result<()> {
     if indexed {
-        lend_find_matches_indexed(s, at, places, hashes, catalogue, others);
-        return;
+        return lend_find_matches_indexed(out, s, at, places, hashes, catalogue, others);
     }
-    lend_find_matches(s, at, places, hashes, catalogue, others);
+    lend_find_matches(out, s, at, places, hashes, catalogue, others)
 }
 
 // The case of either search begins with the four lists.
-fn read_quads(s: &[u8], at: usize, indexed: bool) {
+fn read_quads(out: &mut Stdout, s: &[u8], at: usize, indexed: bool) -> io::Result<()> {
     let mut places = [0u8; 1024];
     let mut hashes = [0.0; 1024];
     let mut catalogue = [0u8; 1024];
@@ -120,6 +128,7 @@ fn read_quads(s: &[u8], at: usize, indexed: bool) {
     let c = cases::bytes_at(s, cases::field(s, at, 2), &mut catalogue);
     let d = cases::floats_at(s, cases::field(s, at, 3), &mut others);
     answer_quads(
+        out,
         s,
         at,
         indexed,
@@ -127,21 +136,30 @@ fn read_quads(s: &[u8], at: usize, indexed: bool) {
         &hashes[..b],
         &catalogue[..c],
         &others[..d],
-    );
+    )
 }
 
 // ---- extract_pairs
 
-fn print_pairs(px: &[f64], py: &[f64], ra: &[f64], dec: &[f64], votes: &[u32], snr: &[f64]) {
-    cases::print_floats(px);
-    cases::print_floats(py);
-    cases::print_floats(ra);
-    cases::print_floats(dec);
-    cases::print_u32s(votes);
-    cases::print_floats(snr);
+fn print_pairs(
+    out: &mut Stdout,
+    px: &[f64],
+    py: &[f64],
+    ra: &[f64],
+    dec: &[f64],
+    votes: &[u32],
+    snr: &[f64],
+) -> io::Result<()> {
+    cases::print_floats(out, px)?;
+    cases::print_floats(out, py)?;
+    cases::print_floats(out, ra)?;
+    cases::print_floats(out, dec)?;
+    cases::print_u32s(out, votes)?;
+    cases::print_floats(out, snr)
 }
 
 fn call_extract_pairs(
+    out: &mut Stdout,
     matches: &[u8],
     xs: &[f64],
     ys: &[f64],
@@ -157,20 +175,21 @@ fn call_extract_pairs(
     dec: &mut [f64],
     votes: &mut [u32],
     snr: &mut [f64],
-) {
+) -> io::Result<()> {
     let mut pairs = 0xa5a5a5a5a5a5a5a5u64;
     let number = matching_face::extract_pairs(
         matches, xs, ys, snrs, images, catalogue, results, ras, decs, px, py, ra, dec, votes, snr,
         &mut pairs,
     );
-    cases::print_number(number as u64);
-    print_pairs(px, py, ra, dec, votes, snr);
-    cases::print_field(pairs);
-    cases::print_end();
+    cases::print_number(out, number as u64)?;
+    print_pairs(out, px, py, ra, dec, votes, snr)?;
+    cases::print_field(out, pairs)?;
+    cases::print_end(out)
 }
 
 // The lengths of the six outputs are the members of the tenth field.
 fn lend_extract_pairs(
+    out: &mut Stdout,
     s: &[u8],
     at: usize,
     matches: &[u8],
@@ -182,7 +201,7 @@ fn lend_extract_pairs(
     results: &[i64],
     ras: &[f64],
     decs: &[f64],
-) {
+) -> io::Result<()> {
     let pattern = scan_digits::of_bits(0xa5a5a5a5a5a5a5a5);
     let mut px = [pattern; 101];
     let mut py = [pattern; 101];
@@ -198,6 +217,7 @@ fn lend_extract_pairs(
     let e = cases::u32s_room(s, cases::member(s, rooms, 4), &votes);
     let f = cases::floats_room(s, cases::member(s, rooms, 5), &snr);
     call_extract_pairs(
+        out,
         matches,
         xs,
         ys,
@@ -213,11 +233,12 @@ fn lend_extract_pairs(
         &mut dec[..d],
         &mut votes[..e],
         &mut snr[..f],
-    );
+    )
 }
 
 // The detections, behind the matches.
 fn with_detections(
+    out: &mut Stdout,
     s: &[u8],
     at: usize,
     matches: &[u8],
@@ -226,7 +247,7 @@ fn with_detections(
     results: &[i64],
     ras: &[f64],
     decs: &[f64],
-) {
+) -> io::Result<()> {
     let mut xs = [0.0; 101];
     let mut ys = [0.0; 101];
     let mut snrs = [0.0; 101];
@@ -234,6 +255,7 @@ fn with_detections(
     let b = cases::floats_at(s, cases::field(s, at, 2), &mut ys);
     let c = cases::floats_at(s, cases::field(s, at, 3), &mut snrs);
     lend_extract_pairs(
+        out,
         s,
         at,
         matches,
@@ -245,11 +267,18 @@ fn with_detections(
         results,
         ras,
         decs,
-    );
+    )
 }
 
 // The results, behind the ids.
-fn with_results(s: &[u8], at: usize, matches: &[u8], images: &[u32], catalogue: &[i64]) {
+fn with_results(
+    out: &mut Stdout,
+    s: &[u8],
+    at: usize,
+    matches: &[u8],
+    images: &[u32],
+    catalogue: &[i64],
+) -> io::Result<()> {
     let mut results = [0i64; 101];
     let mut ras = [0.0; 101];
     let mut decs = [0.0; 101];
@@ -257,6 +286,7 @@ fn with_results(s: &[u8], at: usize, matches: &[u8], images: &[u32], catalogue: 
     let b = cases::floats_at(s, cases::field(s, at, 7), &mut ras);
     let c = cases::floats_at(s, cases::field(s, at, 8), &mut decs);
     with_detections(
+        out,
         s,
         at,
         matches,
@@ -265,29 +295,38 @@ fn with_results(s: &[u8], at: usize, matches: &[u8], images: &[u32], catalogue: 
         &results[..a],
         &ras[..b],
         &decs[..c],
-    );
+    )
 }
 
-fn extract_pairs(s: &[u8], at: usize) {
+fn extract_pairs(out: &mut Stdout, s: &[u8], at: usize) -> io::Result<()> {
     let mut matches = [0u8; 256];
     let mut images = [0u32; 101];
     let mut catalogue = [0i64; 101];
     let a = cases::bytes_at(s, at, &mut matches);
     let b = cases::u32s_at(s, cases::field(s, at, 4), &mut images);
     let c = cases::ids_at(s, cases::field(s, at, 5), &mut catalogue);
-    with_results(s, at, &matches[..a], &images[..b], &catalogue[..c]);
+    with_results(out, s, at, &matches[..a], &images[..b], &catalogue[..c])
 }
 
 // ---- affines
 
-fn fit_affine_3pt(s: &[u8], at: usize, px: &[f64], py: &[f64], xi: &[f64], eta: &[f64]) {
+fn fit_affine_3pt(
+    out: &mut Stdout,
+    s: &[u8],
+    at: usize,
+    px: &[f64],
+    py: &[f64],
+    xi: &[f64],
+    eta: &[f64],
+) -> io::Result<()> {
     let pattern = scan_digits::of_bits(0xa5a5a5a5a5a5a5a5);
     let mut affine = [pattern; 16];
     let room = cases::floats_room(s, cases::field(s, at, 7), &affine);
-    call_fit_affine_3pt(s, at, px, py, xi, eta, &mut affine[..room]);
+    call_fit_affine_3pt(out, s, at, px, py, xi, eta, &mut affine[..room])
 }
 
 fn call_fit_affine_3pt(
+    out: &mut Stdout,
     s: &[u8],
     at: usize,
     px: &[f64],
@@ -295,17 +334,25 @@ fn call_fit_affine_3pt(
     xi: &[f64],
     eta: &[f64],
     affine: &mut [f64],
-) {
+) -> io::Result<()> {
     let a = cases::byte_at(s, cases::field(s, at, 4));
     let b = cases::byte_at(s, cases::field(s, at, 5));
     let c = cases::byte_at(s, cases::field(s, at, 6));
     let number = verify_face::fit_affine_3pt(px, py, xi, eta, a, b, c, affine);
-    cases::print_number(number as u64);
-    cases::print_floats(affine);
-    cases::print_end();
+    cases::print_number(out, number as u64)?;
+    cases::print_floats(out, affine)?;
+    cases::print_end(out)
 }
 
-fn count_affine_inliers(s: &[u8], at: usize, px: &[f64], py: &[f64], xi: &[f64], eta: &[f64]) {
+fn count_affine_inliers(
+    out: &mut Stdout,
+    s: &[u8],
+    at: usize,
+    px: &[f64],
+    py: &[f64],
+    xi: &[f64],
+    eta: &[f64],
+) -> io::Result<()> {
     let mut affine = [0.0; 16];
     let n = cases::floats_at(s, cases::field(s, at, 4), &mut affine);
     let threshold = cases::float_at(s, cases::field(s, at, 5));
@@ -319,36 +366,49 @@ fn count_affine_inliers(s: &[u8], at: usize, px: &[f64], py: &[f64], xi: &[f64],
         threshold,
         &mut inliers,
     );
-    cases::print_number(number as u64);
-    cases::print_field(inliers);
-    cases::print_end();
+    cases::print_number(out, number as u64)?;
+    cases::print_field(out, inliers)?;
+    cases::print_end(out)
 }
 
-fn verify_pairs(px: &[f64], py: &[f64], xi: &[f64], eta: &[f64]) {
+fn verify_pairs(
+    out: &mut Stdout,
+    px: &[f64],
+    py: &[f64],
+    xi: &[f64],
+    eta: &[f64],
+) -> io::Result<()> {
     let mut score = 0xa5a5a5a5a5a5a5a5u64;
     let number = verify_face::verify_pairs(px, py, xi, eta, &mut score);
-    cases::print_number(number as u64);
-    cases::print_field(score);
-    cases::print_end();
+    cases::print_number(out, number as u64)?;
+    cases::print_field(out, score)?;
+    cases::print_end(out)
 }
 
 // ---- lines
 
 // Answers the case of rows whose call has a number.
-fn answer_rows(s: &[u8], at: usize, call: u8, px: &[f64], py: &[f64], xi: &[f64], eta: &[f64]) {
+fn answer_rows(
+    out: &mut Stdout,
+    s: &[u8],
+    at: usize,
+    call: u8,
+    px: &[f64],
+    py: &[f64],
+    xi: &[f64],
+    eta: &[f64],
+) -> io::Result<()> {
     if call == 0 {
-        fit_affine_3pt(s, at, px, py, xi, eta);
-        return;
+        return fit_affine_3pt(out, s, at, px, py, xi, eta);
     }
     if call == 1 {
-        count_affine_inliers(s, at, px, py, xi, eta);
-        return;
+        return count_affine_inliers(out, s, at, px, py, xi, eta);
     }
-    verify_pairs(px, py, xi, eta);
+    verify_pairs(out, px, py, xi, eta)
 }
 
 // Every case of rows begins with the four lists.
-fn read_rows(s: &[u8], at: usize, call: u8) {
+fn read_rows(out: &mut Stdout, s: &[u8], at: usize, call: u8) -> io::Result<()> {
     let mut px = [0.0; 101];
     let mut py = [0.0; 101];
     let mut xi = [0.0; 101];
@@ -357,50 +417,46 @@ fn read_rows(s: &[u8], at: usize, call: u8) {
     let b = cases::floats_at(s, cases::field(s, at, 1), &mut py);
     let c = cases::floats_at(s, cases::field(s, at, 2), &mut xi);
     let d = cases::floats_at(s, cases::field(s, at, 3), &mut eta);
-    answer_rows(s, at, call, &px[..a], &py[..b], &xi[..c], &eta[..d]);
+    answer_rows(out, s, at, call, &px[..a], &py[..b], &xi[..c], &eta[..d])
 }
 
 // Answers the case that starts at a place; a line that is no case has the answer "?".
-fn answer(s: &[u8], at: usize) {
+fn answer(out: &mut Stdout, s: &[u8], at: usize) -> io::Result<()> {
     if let Place::Next(p) = scan::read_bytes(s, at, b"find_matches ") {
-        read_quads(s, p, false);
-        return;
+        return read_quads(out, s, p, false);
     }
     if let Place::Next(p) = scan::read_bytes(s, at, b"build_hash_index ") {
-        build_hash_index(s, p);
-        return;
+        return build_hash_index(out, s, p);
     }
     if let Place::Next(p) = scan::read_bytes(s, at, b"find_matches_indexed ") {
-        read_quads(s, p, true);
-        return;
+        return read_quads(out, s, p, true);
     }
     if let Place::Next(p) = scan::read_bytes(s, at, b"extract_pairs ") {
-        extract_pairs(s, p);
-        return;
+        return extract_pairs(out, s, p);
     }
     if let Place::Next(p) = scan::read_bytes(s, at, b"fit_affine_3pt ") {
-        read_rows(s, p, 0);
-        return;
+        return read_rows(out, s, p, 0);
     }
     if let Place::Next(p) = scan::read_bytes(s, at, b"count_affine_inliers ") {
-        read_rows(s, p, 1);
-        return;
+        return read_rows(out, s, p, 1);
     }
     if let Place::Next(p) = scan::read_bytes(s, at, b"verify_pairs ") {
-        read_rows(s, p, 2);
-        return;
+        return read_rows(out, s, p, 2);
     }
-    io::write_all(STDOUT_FILENO, b"?\n");
+    out.write_all(b"?\n")
 }
 
 // Answers each line, of so many at most.
-fn main() {
+fn main(rt: HostRuntime) -> io::Result<()> {
+    let mut input = rt.reader();
+    let mut out = rt.stdout();
     let mut line = [0u8; 16384];
     for _ in 0..100000usize {
-        let n = cases::read_line(&mut line);
+        let n = cases::read_line(&mut input, &mut line)?;
         if n == 0 {
-            return;
+            return Ok(());
         }
-        answer(&line[..n], 0);
+        answer(&mut out, &line[..n], 0)?;
     }
+    Ok(())
 }

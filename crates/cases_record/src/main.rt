@@ -1,11 +1,15 @@
 // Replays cases of the record: a case a line on standard input, its answer a line on standard output,
 // in the form of oracle/README.md. A lent output starts filled with the byte a5, as there.
-use libc::STDOUT_FILENO;
+#![tactic(auto)]
+
 use scan::Place;
+use std::io;
+use std::io::{Stdout, Write};
 
 // ---- write_record
 
 fn call_record(
+    out: &mut Stdout,
     rows_used: u64,
     wcs: &[f64],
     order: u32,
@@ -13,16 +17,16 @@ fn call_record(
     b: &[f64],
     sums: &[f64],
     text: &mut [u8],
-) {
+) -> io::Result<()> {
     let mut written = 0xa5a5a5a5a5a5a5a5u64;
     let number = record_face::write_record(rows_used, wcs, order, a, b, sums, text, &mut written);
-    cases::print_number(number as u64);
-    cases::print_bytes(text);
-    cases::print_field(written);
-    cases::print_end();
+    cases::print_number(out, number as u64)?;
+    cases::print_bytes(out, text)?;
+    cases::print_field(out, written)?;
+    cases::print_end(out)
 }
 
-fn write_record(s: &[u8], at: usize) {
+fn write_record(out: &mut Stdout, s: &[u8], at: usize) -> io::Result<()> {
     let mut wcs = [0.0; 16];
     let mut a = [0.0; 32];
     let mut b = [0.0; 32];
@@ -36,6 +40,7 @@ fn write_record(s: &[u8], at: usize) {
     let k = cases::floats_at(s, cases::field(s, at, 5), &mut sums);
     let room = cases::bytes_room(s, cases::field(s, at, 6), &text);
     call_record(
+        out,
         rows_used,
         &wcs[..w],
         order,
@@ -43,12 +48,19 @@ fn write_record(s: &[u8], at: usize) {
         &b[..n],
         &sums[..k],
         &mut text[..room],
-    );
+    )
 }
 
 // ---- read_record
 
-fn call_read(text: &[u8], wcs: &mut [f64], a: &mut [f64], b: &mut [f64], sums: &mut [f64]) {
+fn call_read(
+    out: &mut Stdout,
+    text: &[u8],
+    wcs: &mut [f64],
+    a: &mut [f64],
+    b: &mut [f64],
+    sums: &mut [f64],
+) -> io::Result<()> {
     let mut format = 0xa5a5a5a5u32;
     let mut rows_used = 0xa5a5a5a5a5a5a5a5u64;
     let mut order = 0xa5a5a5a5u32;
@@ -64,19 +76,19 @@ fn call_read(text: &[u8], wcs: &mut [f64], a: &mut [f64], b: &mut [f64], sums: &
         sums,
         &mut line,
     );
-    cases::print_number(number as u64);
-    cases::print_field(format as u64);
-    cases::print_field(rows_used);
-    cases::print_floats(wcs);
-    cases::print_field(order as u64);
-    cases::print_floats(a);
-    cases::print_floats(b);
-    cases::print_floats(sums);
-    cases::print_field(line);
-    cases::print_end();
+    cases::print_number(out, number as u64)?;
+    cases::print_field(out, format as u64)?;
+    cases::print_field(out, rows_used)?;
+    cases::print_floats(out, wcs)?;
+    cases::print_field(out, order as u64)?;
+    cases::print_floats(out, a)?;
+    cases::print_floats(out, b)?;
+    cases::print_floats(out, sums)?;
+    cases::print_field(out, line)?;
+    cases::print_end(out)
 }
 
-fn read_record(s: &[u8], at: usize) {
+fn read_record(out: &mut Stdout, s: &[u8], at: usize) -> io::Result<()> {
     let pattern = scan_digits::of_bits(0xa5a5a5a5a5a5a5a5);
     let mut text = [0u8; 2048];
     let mut wcs = [pattern; 32];
@@ -89,37 +101,39 @@ fn read_record(s: &[u8], at: usize) {
     let q = cases::floats_room(s, cases::field(s, at, 3), &b);
     let r = cases::floats_room(s, cases::field(s, at, 4), &sums);
     call_read(
+        out,
         &text[..n],
         &mut wcs[..w],
         &mut a[..p],
         &mut b[..q],
         &mut sums[..r],
-    );
+    )
 }
 
 // ---- lines
 
 // Answers the case that starts at a place; a line that is no case has the answer "?".
-fn answer(s: &[u8], at: usize) {
+fn answer(out: &mut Stdout, s: &[u8], at: usize) -> io::Result<()> {
     if let Place::Next(p) = scan::read_bytes(s, at, b"write_record ") {
-        write_record(s, p);
-        return;
+        return write_record(out, s, p);
     }
     if let Place::Next(p) = scan::read_bytes(s, at, b"read_record ") {
-        read_record(s, p);
-        return;
+        return read_record(out, s, p);
     }
-    io::write_all(STDOUT_FILENO, b"?\n");
+    out.write_all(b"?\n")
 }
 
 // Answers each line, of so many at most.
-fn main() {
+fn main(rt: HostRuntime) -> io::Result<()> {
+    let mut input = rt.reader();
+    let mut out = rt.stdout();
     let mut line = [0u8; 16384];
     for _ in 0..100000usize {
-        let n = cases::read_line(&mut line);
+        let n = cases::read_line(&mut input, &mut line)?;
         if n == 0 {
-            return;
+            return Ok(());
         }
-        answer(&line[..n], 0);
+        answer(&mut out, &line[..n], 0)?;
     }
+    Ok(())
 }

@@ -1,11 +1,14 @@
 // The quad program: the text of standard input is answered on standard output.
-use libc::{STDIN_FILENO, STDOUT_FILENO};
+#![tactic(auto)]
 
-fn main() {
+use std::io;
+use std::io::Write;
+
+fn main(rt: HostRuntime) -> io::Result<()> {
     // One byte more than a text in form can have, so that a longer one is seen to be longer.
     let mut text = [0u8; 1025];
-    let n = io::read_full(STDIN_FILENO, &mut text);
+    let n = streams::read_full(&mut rt.stdin(), &mut text)?;
     let mut out = [0u8; 42100];
     let m = quad_program::answer(&text[..n], &mut out);
-    io::write_all(STDOUT_FILENO, &out[..m]);
+    rt.stdout().write_all(&out[..m])
 }

@@ -1,6 +1,5 @@
 -- `cases::after_number` meets its contract: a number that is missing, a comma that is missing, or both there. Assumes nothing.
 use mathlib.Core.Path.{refl}
-use borrow.Author.Rules.{rules}
 use Rattle.cases.proofs.after_number.Goals as goal
 
 pub returns-in_default : goal.returns-in_default

@@ -1,7 +1,6 @@
 -- `cases::float_at` meets its contract: 16 digits are there, or not. Assumes nothing.
 use lib.Ieee.{div, of_bits}
 use mathlib.Core.Path.{refl}
-use borrow.Author.Rules.{rules}
 use Rattle.cases.proofs.float_at.Goals as goal
 
 pub returns-in-Is : goal.returns-in-Is

@@ -6,7 +6,6 @@ use lib.IntN.{ℤ, pos, negsuc, ◌-ℤ◌}
 use mir.Syntax.{w64}
 use mir.Val.{SFits, to_z}
 use mir.ValLaws.{to_z_pos}
-use borrow.Author.Rules.{rules}
 use Rattle.cases.proofs.id_at.Goals as goal
 
 step_down : (k : ℕ) → negsuc 0 -ℤ pos k ≡ negsuc k

@@ -1,9 +1,6 @@
 -- `cases::member` meets its contract: the loop's invariant is the member so far. Assumes nothing.
-use borrow.Author.Rules.{rules}
-use mathlib.Core.Path.{◌≡◌, ap, ◌∙◌}
-use Prim.Native.Nat.{◌≤◌, ◌-◌}
-use native.Mathlib.Numerals.{add-one}
-use native.Mathlib.Omega.{arith}
+use mathlib.Core.Path.{◌≡◌}
+use Prim.Native.Nat.{◌≤◌}
 use Rattle.cases.specs.Fields.{member_after}
 use Rattle.cases.proofs.member.Given as goal
 

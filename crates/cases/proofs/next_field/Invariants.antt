@@ -1,10 +1,8 @@
 -- `cases::next_field` meets its contract: the loop's invariant: the next space is that from here. Assumes nothing.
-use borrow.Author.Rules.{rules}
-use mathlib.Core.Path.{◌≡◌, refl, ◌∙◌}
+use mathlib.Core.Path.{◌≡◌}
 use Prim.Native.Nat.{◌-◌}
 use lib.ListN.{length, drop}
 use Rattle.cases.specs.Fields.{after_space}
-use Rattle.cases.proofs.Reading.{space_more, space_found, space_none}
 use Rattle.cases.proofs.next_field.Given as goal
 
 abbrev pub invariant-loop-p : goal.invariant-loop-p

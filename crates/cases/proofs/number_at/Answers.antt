@@ -1,6 +1,5 @@
 -- `cases::number_at` meets its contract: a number is there, or not. Assumes nothing.
 use mathlib.Core.Path.{refl}
-use borrow.Author.Rules.{rules}
 use Rattle.cases.proofs.number_at.Goals as goal
 
 pub returns-in-Is : goal.returns-in-Is

@@ -1,9 +1,13 @@
--- `cases::print_u32s` is safe and returns, and meets its contract where it has one. Assumes nothing.
-use borrow.Author.Rules.{rules}
-use mathlib.Core.Path.{◌≡◌}
-use Prim.Native.Nat.{◌≤◌, ◌-◌}
-use lib.ListN.{length}
+-- `cases::print_u32s`: the members so far are written. Assumes nothing.
+use Rattle.std.proofs.Common.{◌≡◌, ◌≤◌, length}
+use Rattle.std.specs.Io.KnownBytes.{Appends}
+use Rattle.digits.specs.Digits.{decimal_of}
+use Rattle.cases.proofs.Listing.{so_far}
 use Rattle.cases.proofs.print_u32s.Given as goal
 
 abbrev pub invariant-loop-i : goal.invariant-loop-i
-invariant-loop-i l = (l.i-end ≡ length l.list) × (l.i ≤ l.i-end)
+invariant-loop-i g l = record {
+  end : l.i-end ≡ length l.list;
+  within : l.i ≤ l.i-end;
+  written : Appends (g.W.Write.contents l.fn.out) (g.W.Write.contents l.out) (so_far decimal_of l.list l.i);
+}

@@ -1,20 +1,32 @@
--- `cases::read_line` is safe and returns, and says how far it filled the list. Assumes nothing.
-use borrow.Author.Rules.{rules}
-use mathlib.Core.Path.{◌≡◌}
-use Prim.Native.Nat.{◌≤◌, ◌-◌}
-use native.Mathlib.Omega.{arith}
-use lib.ListN.{length, length-set}
-use Rattle.cases.proofs.Counts.{counts}
+-- `cases::read_line`: a newline, the end of the stream and the end of the room, and a byte more. Assumes nothing.
+use Rattle.std.proofs.Common.{◌≤◌, Ok, length, arith, sym, ap, subst, length-take-le}
+use Rattle.std.proofs.Math.ListN.{length-set}
+use Rattle.std.specs.Io.KnownBytes.{Consumes}
+use Rattle.std.proofs.KnownBytes.{Consumes-trans}
+use Rattle.cases.proofs.Lines.{more_bytes, none_more, line_full, line_last, line_ended}
 use Rattle.cases.proofs.read_line.Goals as goal
 
-pub returns-then-b-gt255 : goal.returns-then-b-gt255
-returns-then-b-gt255 c = counts _ _ (omega arith)
+pub returns-in_default-clause-line : goal.returns-in_default-clause-line
+returns-in_default-clause-line g c =
+    let h : c.loop-n.n ≤ length c.loop-n.out = omega arith in
+    line_last _ _ _ _ c.loop-n.invariant.moved c.loop-n.invariant.none (omega (arith, length-take-le _ _ h)) (c.in_ok-b.ensures.end (ap Ok c.in_default.is))
 
-pub returns-then-b-eq10 : goal.returns-then-b-eq10
-returns-then-b-eq10 c = counts _ _ (simp length-set (omega arith))
+pub returns-then-b-eq10-clause-line : goal.returns-then-b-eq10-clause-line
+returns-then-b-eq10-clause-line g c =
+    let h : c.loop-n.n ≤ length c.loop-n.out = omega arith in
+    line_ended _ _ _ _ _ c.in-Some.b _ c.loop-n.invariant.moved c.loop-n.invariant.none
+    (omega (arith, length-take-le _ _ h, length-set c.loop-n.out c.loop-n.n c.in-Some.b))
+    (rw c.in-Some.is at c.in_ok-b.ensures.some) c.if-b-eq10.true (more_bytes _ _ _ (omega arith))
 
 pub loop-n-preserved : goal.loop-n-preserved
-loop-n-preserved c = (omega arith, simp length-set (omega arith))
+loop-n-preserved g c = record {
+  within = omega arith;
+  length_same = simp length-set (omega arith);
+  none = none_more _ _ _ (omega arith) c.loop-n.invariant.none c.if-b-eq10.false;
+  moved = subst (Consumes _ _) (sym (more_bytes c.loop-n.out c.loop-n.n c.in-Some.b (omega arith))) (Consumes-trans _ _ _ _ _ c.loop-n.invariant.moved (rw c.in-Some.is at c.in_ok-b.ensures.some));
+}
 
-pub returns : goal.returns
-returns c = counts _ _ (omega arith)
+pub returns-clause-line : goal.returns-clause-line
+returns-clause-line g c =
+    let h : c.loop-n.n ≤ length c.loop-n.out = omega arith in
+    line_full _ _ _ _ c.loop-n.invariant.moved c.loop-n.invariant.none (omega (arith, length-take-le _ _ h))

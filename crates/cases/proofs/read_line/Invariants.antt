@@ -1,14 +1,15 @@
--- `cases::read_line` is safe and returns, and says how far it filled the list. Assumes nothing.
-use borrow.Author.Rules.{rules}
-use mathlib.Core.Path.{◌≡◌}
-use Prim.Native.Nat.{◌≤◌, ◌-◌}
-use native.Mathlib.Omega.{arith}
-use lib.ListN.{length, length-set}
-use Rattle.cases.proofs.Counts.{counts}
+-- `cases::read_line`: what was read is at the front of the list, which keeps its length. Assumes nothing.
+use Rattle.std.proofs.Common.{◌≡◌, ◌≢◌, ◌≤◌, ◌-◌, length, take, All}
+use Rattle.std.specs.Io.KnownBytes.{Consumes}
 use Rattle.cases.proofs.read_line.Given as goal
 
 abbrev pub invariant-loop-n : goal.invariant-loop-n
-invariant-loop-n l = (l.n ≤ length l.initial.out) × (length l.out ≡ length l.initial.out)
+invariant-loop-n g l = record {
+  within : l.n ≤ length l.initial.out;
+  length_same : length l.out ≡ length l.initial.out;
+  none : All (λ x. x ≢ 10) (take l.n l.out);
+  moved : Consumes (g.R.Read.remaining l.initial.input) (g.R.Read.remaining l.input) (take l.n l.out);
+}
 
 abbrev pub decreases-loop-n : goal.decreases-loop-n
-decreases-loop-n l = length l.initial.out - l.n
+decreases-loop-n g l = length l.initial.out - l.n

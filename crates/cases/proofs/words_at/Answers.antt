@@ -1,9 +1,6 @@
 -- `cases::words_at` is safe and returns, and meets its contract where it has one. Assumes nothing.
-use borrow.Author.Rules.{rules}
-use mathlib.Core.Path.{◌≡◌}
-use Prim.Native.Nat.{◌≤◌, ◌-◌}
 use native.Mathlib.Omega.{arith}
-use lib.ListN.{length, length-set}
+use lib.ListN.{length-set}
 use Rattle.cases.proofs.Counts.{counts}
 use Rattle.cases.proofs.words_at.Goals as goal
 

@@ -1,10 +1,7 @@
 -- `cases::words_at` is safe and returns, and meets its contract where it has one. Assumes nothing.
-use borrow.Author.Rules.{rules}
 use mathlib.Core.Path.{◌≡◌}
 use Prim.Native.Nat.{◌≤◌, ◌-◌}
-use native.Mathlib.Omega.{arith}
-use lib.ListN.{length, length-set}
-use Rattle.cases.proofs.Counts.{counts}
+use lib.ListN.{length}
 use Rattle.cases.proofs.words_at.Given as goal
 
 abbrev pub invariant-loop-n : goal.invariant-loop-n

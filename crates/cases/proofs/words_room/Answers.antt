@@ -1,5 +1,4 @@
 -- `cases::words_room` is safe and returns, and meets its contract where it has one. Assumes nothing.
-use borrow.Author.Rules.{rules}
 use Rattle.cases.proofs.Counts.{counts}
 use Rattle.cases.proofs.words_room.Goals as goal
 

@@ -1,5 +1,4 @@
 -- `cases_floats::print_float` is safe: the line has 17 bytes. Assumes nothing.
-use borrow.Author.Rules.{rules}
 use mathlib.Core.List.{[]}
 use native.Mathlib.Omega.{arith}
 use lib.Ieee.{binary64, to_bits}

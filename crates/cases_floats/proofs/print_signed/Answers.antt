@@ -1,19 +1,15 @@
 -- `cases_floats::print_signed` is safe: the line has at most a sign, 20 digits and a newline. Assumes nothing.
-use borrow.Author.Rules.{rules}
 use mathlib.Core.Path.{sym, subst}
-use Prim.Native.Nat.{◌≤◌}
 use native.Mathlib.Nat.{lt_of_lt_of_le}
 use native.Mathlib.Omega.{arith}
 use lib.Dec.{lit≤}
 use lib.IntN.{ℤ}
-use lib.ListN.{length}
 use lib.Seq.{length-take-le}
 use mir.Syntax.{w32, w64}
 use mir.Val.{SFits, to_z, of_z}
 use mir.ValLaws.{to_z-of_z}
 use Rattle.put.proofs.Writing.{put_length}
 use Rattle.digits.proofs.Signed.{length_signed_most}
-use Rattle.cases_floats.proofs.print_signed.Goals.{After-line-4-1}
 use Rattle.cases_floats.proofs.print_signed.Goals as goal
 
 -- a number of 32 bits has room in 64
@@ -31,12 +27,10 @@ put_byte-q-requires c =
     record { room = omega (arith, c.put_signed-p.ensures.next_is, length_signed_most (to_z w64 (of_z w64 (to_z w32 (of_z w32 c.args.n)))), put_length c.put_signed-p.ensures) }
 
 -- what is printed is in the buffer
-within : (c : After-line-4-1) → c.put_byte-q.result ≤ length c.put_byte-q.new.buf
-within c =
+pub slice_bounds-line-end : goal.slice_bounds-line-end
+slice_bounds-line-end c =
     omega (arith, c.put_byte-q.ensures.next_is, c.put_signed-p.ensures.next_is, length_signed_most (to_z w64 (of_z w64 (to_z w32 (of_z w32 c.args.n)))), put_length c.put_byte-q.ensures, put_length c.put_signed-p.ensures)
 
-pub slice_bounds-line-end : goal.slice_bounds-line-end
-slice_bounds-line-end c = within c
-
 pub slice_bounds-write_all-end : goal.slice_bounds-write_all-end
-slice_bounds-write_all-end c = sym (length-take-le _ _ (within c.before))
+slice_bounds-write_all-end c =
+    sym (length-take-le _ _ (omega (arith, c.put_byte-q.ensures.next_is, c.put_signed-p.ensures.next_is, length_signed_most (to_z w64 (of_z w64 (to_z w32 (of_z w32 c.args.n)))), put_length c.put_byte-q.ensures, put_length c.put_signed-p.ensures)))

@@ -1,10 +1,6 @@
 -- `cases_quad::answer_all` is safe and ends: each turn passes a newline. Assumes nothing.
-use borrow.Author.Rules.{rules}
-use mathlib.Core.Path.{sym, subst}
-use Prim.Native.Nat.{ℕ, ◌-◌, ◌≤◌}
-use native.Mathlib.Omega.{arith}
-use lib.ListN.{length, drop}
-use Rattle.scan.proofs.Reading.{line_within}
+use Prim.Native.Nat.{◌-◌, ◌≤◌}
+use lib.ListN.{length}
 use Rattle.cases_quad.proofs.answer_all.Given as goal
 
 abbrev pub invariant-loop-at : goal.invariant-loop-at
