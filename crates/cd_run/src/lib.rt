@@ -1,4 +1,6 @@
 // The CD run: of the plates of a fixed draw, the one that the most rows are near to.
+#![tactic(auto)]
+
 ghost use Rattle.std.specs.Prelude.{◌≡◌, true, ℕ, ◌<◌, ◌≤◌, length, get_or, replicate};
 ghost use Rattle.domain.specs.Domain.{is_limit};
 ghost use Rattle.rows.specs.Rows.{rows};

@@ -1,4 +1,6 @@
 // The clip for C: it answers its number, and hands the plate back in the six numbers that are lent.
+#![tactic(auto)]
+
 ghost use Rattle.std.specs.Prelude.{◌≡◌, length};
 ghost use Rattle.rows.specs.Rows.{rows};
 ghost use Rattle.cd_clip.specs.Clip.{clip_number};

@@ -1,4 +1,6 @@
 // Errors, residuals and their root mean squares for C: each call answers its number, and writes its result into what is lent.
+#![tactic(auto)]
+
 ghost use Rattle.std.specs.Prelude.{◌≡◌, length};
 ghost use Rattle.answer.specs.Answers.{answer_number, lent_after, number_after};
 ghost use Rattle.rows.specs.Rows.{rows};

@@ -1,4 +1,6 @@
 // The fits and the equations for C: each call answers its number, and writes its result into what is lent.
+#![tactic(auto)]
+
 ghost use Rattle.std.specs.Prelude.{◌≡◌, length};
 ghost use Rattle.answer.specs.Answers.{answer_number, lent_after};
 ghost use Rattle.rows.specs.Rows.{rows};

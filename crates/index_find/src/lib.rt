@@ -1,4 +1,6 @@
 // The matches of image quads with catalogue quads, found by the index of the catalogue list.
+#![tactic(auto)]
+
 ghost use Rattle.std.specs.Prelude.{◌≡◌, ◌+◌, ◌*◌, ◌/◌, ◌≤◌, ◌<◌, length, take, drop};
 ghost use Rattle.std.proofs.lemmas.List.Edits.{sets};
 ghost use Rattle.hash_near.specs.Over.{over, each};

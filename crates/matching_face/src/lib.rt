@@ -1,4 +1,6 @@
 // The index, the searches and the votes for C: each call answers its number, and writes its result into what is lent.
+#![tactic(auto)]
+
 ghost use Rattle.std.specs.Prelude.{◌≡◌, length};
 ghost use Rattle.answer.specs.Answers.{answer_number, lent_after, number_after};
 ghost use Rattle.aggregate.specs.Extract.{given, room, pair_xs, pair_ys, pair_ras, pair_decs, pair_votes, pair_snrs};

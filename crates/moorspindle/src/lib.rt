@@ -1,4 +1,6 @@
 // The C face: every call of the solver under the name that bindings/c/moorspindle.h declares.
+#![tactic(auto)]
+
 ghost use Rattle.std.specs.Prelude.{◌≡◌, ◌≤◌, length};
 ghost use Rattle.std.specs.Float.Ieee.{to_signed};
 ghost use Rattle.floats.specs.Magnitude.{magnitude_of};

@@ -51,7 +51,7 @@ in_order order b e n =
 
 -- its rows are at most 100, its order is 2 to 5, and it has as many coefficients on each axis as terms, at most 18
 pub record Checked (rows order a b : ℕ) : Type 0 where
-  pub few_rows_lem : rows ≤ 100
+  pub few_rows : rows ≤ 100
   pub least : 2 ≤ order
   pub low : order ≤ 5
   pub a_is : a ≡ term_count order
@@ -73,7 +73,7 @@ checked fit wcs order a b e =
     let both = (and-eq-true_iff (eqb a (term_count order)) (eqb b (term_count order))).0 same in
     let ea : a ≡ term_count order = eqb-true a (term_count order) both.0 in
     let eb : b ≡ term_count order = eqb-true b (term_count order) both.1 in
-    record { few_rows_lem = ltb-false 100 fit.rows_used f.0; least = leb-true 2 order orders.0; low = low; a_is = ea; b_is = eb; few_a = omega (arith, ea, few_terms order low); few_b = omega (arith, eb, few_terms order low) }
+    record { few_rows = ltb-false 100 fit.rows_used f.0; least = leb-true 2 order orders.0; low = low; a_is = ea; b_is = eb; few_a = omega (arith, ea, few_terms order low); few_b = omega (arith, eb, few_terms order low) }
 
 -- ---- the parts of a record, one after the other, are its lines
 

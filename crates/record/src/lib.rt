@@ -1,4 +1,6 @@
 // `write_record`: the record of a solution, written into lent bytes.
+#![tactic(auto)]
+
 ghost use Rattle.std.specs.Prelude.{◌≡◌, ◌≤◌, length};
 ghost use Rattle.answer.specs.Answers.{room_for, lent_after};
 ghost use Rattle.put.specs.Put.{Put, Room};

@@ -42,6 +42,8 @@ blanks_append (k ∷ ks) ls a b = (a.0, blanks_append ks ls a.1 b)
 
 fit_append : (ks ls : List Slot) (ns ms : List ℕ) → Fit ks ns → Fit ls ms → Fit (ks ++ ls) (ns ++ ms)
 fit_append [] ls [] ms Fit.none f = f
+fit_append [] ls (n ∷ ns) ms g f = elim g [ ]
+fit_append (k ∷ ks) ls [] ms g f = elim g [ ]
 fit_append (k ∷ ks) ls (n ∷ ns) ms (Fit.more h w g) f = Fit.more h w (fit_append ks ls ns ms g f)
 
 lines_append : (ks ls : List Slot) (ns ms : List ℕ) → length ns ≡ length ks → lines_for (ks ++ ls) (ns ++ ms) ≡ lines_for ks ns ++ lines_for ls ms

@@ -189,6 +189,7 @@ line_front (Kind.Real test) name n zs = append_assoc name (hex_from 16 (to_bits 
 away_lines : (name : List ℕ) (ks : List Slot) (ns : List ℕ) → Fit ks ns → Away name ks → (m : ℕ) (zs ws : List ℕ) → text_of (take (suc m) (lines_for ks ns)) ++ zs ≡ name ++ ws → ⊥
 unfolding lines_for text_of
 away_lines name [] ns f a m zs ws e = a
+away_lines name (k ∷ ks) [] f a m zs ws e = elim f [ ]
 away_lines name (k ∷ ks) (n ∷ ns) (Fit.more h w f) a m zs ws e = go k.must (may_show k.kind n) refl refl (λ b. away_lines name ks ns f (a.1 b) m zs ws) e
   where
     here : line_for k.kind k.name n ++ text_of (take m (lines_for ks ns)) ++ zs ≡ name ++ ws → ⊥
@@ -238,6 +239,8 @@ pub written : (ks : List Slot) (ns s : List ℕ) (c : Spot) (ys : List ℕ) → 
     → Reached s (shown_for ks ns) ys (read_slots ks s c)
 unfolding read_slots lines_for shown_for text_of
 written [] [] s c ys Fit.none a g e = record { values = refl; good = g; left = e }
+written [] (n ∷ ns) s c ys f a g e = elim f [ ]
+written (k ∷ ks) [] s c ys f a g e = elim f [ ]
 written (k ∷ ks) (n ∷ ns) s c ys (Fit.more h w f) a g e = go (stands_for k n) refl (λ d. written ks ns s d ys f a.1)
   where
     go : (b : Bool) → stands_for k n ≡ b → ((d : Spot) → d.good ≡ true → drop d.at s ≡ text_of (lines_for ks ns) ++ ys → Reached s (shown_for ks ns) ys (read_slots ks s d))
@@ -265,6 +268,8 @@ pub reaches : (ks : List Slot) (ns s : List ℕ) (c : Spot) (m : ℕ) (ys : List
 unfolding read_slots lines_for text_of
 reaches ks ns s c zero ys f a g l e = omega (arith, grows ks s c)
 reaches [] [] s c (suc m) ys Fit.none a g l e = absurd (omega (arith, l))
+reaches [] (n ∷ ns) s c (suc m) ys f a g l e = elim f [ ]
+reaches (k ∷ ks) [] s c (suc m) ys f a g l e = elim f [ ]
 reaches (k ∷ ks) (n ∷ ns) s c (suc m) ys (Fit.more h w f) a g l e = go (stands_for k n) refl (λ d. reaches ks ns s d m ys f a.1) (λ d. reaches ks ns s d (suc m) ys f a.1)
   where
     go : (b : Bool) → stands_for k n ≡ b

@@ -1,4 +1,6 @@
 // `read_record`: the solution that a record shows, its coefficients in lent lists.
+#![tactic(auto)]
+
 ghost use Rattle.std.specs.Prelude.{◌≡◌, ◌≤◌, length};
 ghost use Rattle.answer.specs.Answers.{first, room_for, written, lent_after};
 ghost use Rattle.record_reader.specs.Reading.{record_in};

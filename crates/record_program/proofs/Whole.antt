@@ -27,7 +27,7 @@ use Rattle.record_load.specs.Load.{RecordLoaded, a_in, b_in, load_done, loaded_i
 use Rattle.record_back.proofs.Same.{writes_back}
 use Rattle.record_back.proofs.Only.{longer}
 use Rattle.record_program.specs.Program.{shown_text, wrong_text, reading_text, program_text}
-use Rattle.record_program.proofs.Texts.{shown_short, wrong_short}
+use Rattle.record_program.proofs.Texts.{shown_short}
 
 -- ---- what was read
 

@@ -1,4 +1,6 @@
 // The program `record_check` over slices: a text is read as a record, and what it shows is written, or its first wrong line.
+#![tactic(auto)]
+
 ghost use Rattle.std.specs.Prelude.{◌≡◌, ◌+◌, ◌<◌, ◌≤◌, length, take, drop};
 ghost use Rattle.put.specs.Put.{Put, Room};
 ghost use Rattle.sip_terms.specs.Terms.{first_term};

@@ -1,5 +1,7 @@
 // A record, read part by part. A part is read where the one before it ends; once a line was wrong, all parts after it are
 // read from the same place, and none of them moves it.
+#![tactic(auto)]
+
 ghost use Rattle.std.specs.Prelude.{◌≡◌, map, ◌+◌, ◌≤◌, length};
 ghost use Rattle.sip_terms.specs.Terms.{first_term};
 ghost use Rattle.record_format.specs.Formats.{format_of, solved_by};

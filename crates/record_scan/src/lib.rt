@@ -1,5 +1,7 @@
 // The lines of a record, read one by one. A line is right where it is, byte for byte, the line that the writer puts for the
 // number that stands in it, and the number is one that the line may hold.
+#![tactic(auto)]
+
 ghost use Rattle.std.specs.Prelude.{◌≡◌, ◌+◌, ◌<◌, ◌≤◌};
 ghost use Rattle.scan.specs.declared.Place.TheVariants as place;
 ghost use Rattle.record_lines.specs.Table.{whole_slot, term_slot};

@@ -1,5 +1,7 @@
 // The record writer: it keeps the caller's buffer and the next free place together. Each function over it takes it apart and
 // calls one of record_lines on the slice and the number; `write_lines` has plain parameters, so that its callers see no writer.
+#![tactic(auto)]
+
 ghost use Rattle.std.specs.Prelude.{◌≡◌, ◌≤◌};
 ghost use Rattle.put.specs.Put.{Put, Room};
 ghost use Rattle.record_lines.specs.Lines.{text_of};

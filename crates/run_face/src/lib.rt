@@ -1,4 +1,6 @@
 // The CD run for C: it answers its number, and writes what it found into what is lent.
+#![tactic(auto)]
+
 ghost use Rattle.std.specs.Prelude.{◌≡◌, length};
 ghost use Rattle.rows.specs.Rows.{rows};
 ghost use Rattle.cd_run.specs.Run.{run_answer, run_number, mask_after};

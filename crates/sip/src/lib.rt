@@ -1,4 +1,6 @@
 // `fit_sip`: the SIP polynomials of rows under a WCS.
+#![tactic(auto)]
+
 ghost use Rattle.std.specs.Prelude.{◌≡◌, ◌+◌, ◌*◌, ◌≤◌, length, replicate};
 ghost use Rattle.answer.specs.declared.Answer.TheVariants as answer;
 ghost use Rattle.answer.specs.Answers.{lent_after};

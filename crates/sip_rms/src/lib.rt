@@ -1,4 +1,6 @@
 // What a SIP fit says of itself: the rows used, and the root mean squares before and after.
+#![tactic(auto)]
+
 ghost use Rattle.std.specs.Prelude.{◌≡◌, ◌≤◌, length};
 ghost use Rattle.rows.specs.Rows.{rows};
 ghost use Rattle.sip_rms.specs.Rms.{root_mean, root_share, with_offset, linear_to, linear_rms_of, no_errors, with_error, with_error_if, totals_to, sip_of};

@@ -1,4 +1,6 @@
 // The rounds of a SIP fit: both solves, the errors and a clip, until a clip turns no row off.
+#![tactic(auto)]
+
 ghost use Rattle.std.specs.Prelude.{◌≡◌, ◌≤◌, length};
 ghost use Rattle.answer.specs.declared.Answer.TheVariants as answer;
 ghost use Rattle.rows.specs.Rows.{rows};

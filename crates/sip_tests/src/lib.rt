@@ -1,4 +1,6 @@
 // The tests of a SIP fit's input, in the order of this call.
+#![tactic(auto)]
+
 ghost use Rattle.std.specs.Prelude.{◌≡◌};
 ghost use Rattle.rows.specs.Rows.{rows};
 ghost use Rattle.sip_sums.specs.Field.{field};

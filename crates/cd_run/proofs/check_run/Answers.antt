@@ -1,6 +1,5 @@
 -- `cd_run::check_run` meets its contract: each test has its own return. Assumes nothing.
 use Rattle.cd_run.specs.Run.{tests_of}
-use borrow.Author.Rules.{rules}
 use mathlib.Core.Path.{ap}
 use mathlib.Core.Bool.{not}
 use Rattle.cd_run.proofs.check_run.Goals as goal

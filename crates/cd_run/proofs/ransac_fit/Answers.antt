@@ -5,7 +5,6 @@ use Rattle.cd_pool.proofs.Pools.{pool_below}
 use Rattle.rows.specs.Rows.{rows}
 use lib.ListN.{length}
 use mathlib.Core.Path.{◌∙◌, sym, ap}
-use borrow.Author.Rules.{rules}
 use Rattle.cd_run.proofs.ransac_fit.Goals as goal
 
 pub pool_of-count-requires : goal.pool_of-count-requires
@@ -18,7 +17,7 @@ slice_bounds-run_pool-end c = c.pool_of-count.ensures.0 ∙ sym (ap length c.poo
 pub run_pool-requires : goal.run_pool-requires
 run_pool-requires c =
     let k = tests_passed _ _ _ _ _ (sym c.check_run.ensures ∙ c.in-Done.is) in
-    let a = c.args in record { py_len_1 = k.py_long; py_len_2 = k.xi_long; py_len_3 = k.eta_long; px_len_bound_1 = k.few_rows; px_len_bound_2 = k.room; px_len_bound_3 = k.limit_good; px_len_bound_4 = rw c.pool_of-count.ensures.1 (λ i h. (pool_below a.votes.now (length a.px.now) i h).0) }
+    let a = c.args in record { py_len_1 = k.py_long; py_len_2 = k.xi_long; py_len_3 = k.eta_long; px_len_bound_1 = k.few_rows_lem; px_len_bound_2 = k.room; px_len_bound_3 = k.limit_good; px_len_bound_4 = rw c.pool_of-count.ensures.1 (λ i h. (pool_below a.votes.now (length a.px.now) i h).0) }
 
 pub returns-in-Refused : goal.returns-in-Refused
 returns-in-Refused c =

@@ -10,7 +10,6 @@ use Rattle.answer.specs.Answers.{written}
 use Rattle.rows.specs.Rows.{rows}
 use native.Mathlib.Omega.{arith}
 use mathlib.Core.Path.{refl, ap, ◌∙◌, subst}
-use borrow.Author.Rules.{rules}
 use Rattle.cd_run.proofs.run_pool.Goals.{After-search-held}
 use Rattle.cd_run.proofs.run_pool.Goals as goal
 

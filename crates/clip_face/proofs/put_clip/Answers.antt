@@ -1,6 +1,5 @@
 -- `clip_face::put_clip` meets its contract: each way hands out the plate that its answer names. Assumes nothing.
 use mathlib.Core.Path.{refl}
-use borrow.Author.Rules.{rules}
 use Rattle.clip_face.proofs.put_clip.Goals as goal
 
 pub returns-in-Done : goal.returns-in-Done

@@ -1,6 +1,5 @@
 -- `clip_face::put_plate` meets its contract: there is room for six numbers, and nothing past them. Assumes nothing.
 use Rattle.clip_face.proofs.Over.{over_six}
-use borrow.Author.Rules.{rules}
 use Rattle.clip_face.proofs.put_plate.Goals as goal
 
 pub returns : goal.returns

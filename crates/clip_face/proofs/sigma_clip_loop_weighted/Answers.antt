@@ -4,7 +4,6 @@ use borrow.Author.Tests.{eq-eqb, ne_eqb}
 use Rattle.cd_clip.specs.Clip.{clip_number}
 use Rattle.cd_clip.specs.declared.Clipped.{Clipped}
 use Rattle.clip_face.specs.Face.{plate_after}
-use borrow.Author.Rules.{rules}
 use Rattle.clip_face.proofs.sigma_clip_loop_weighted.Goals as goal
 
 pub returns-then-few_masked-weights : goal.returns-then-few_masked-weights

@@ -2,7 +2,6 @@
 use mathlib.Core.Path.{refl, ap, ◌∙◌}
 use borrow.Author.Tests.{eq-eqb, ne_eqb}
 use Rattle.answer.specs.Answers.{answer_number}
-use borrow.Author.Rules.{rules}
 use Rattle.errors_face.proofs.compute_pixel_errors.Goals as goal
 
 pub returns-then-few_masked : goal.returns-then-few_masked

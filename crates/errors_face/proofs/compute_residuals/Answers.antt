@@ -6,7 +6,6 @@ use Rattle.answer.specs.Answers.{answer_number}
 use Rattle.rows.specs.Rows.{rows}
 use Rattle.cd_residuals.specs.Residuals.{found_of, residuals_done}
 use Rattle.errors_face.proofs.Ended.{refused, found}
-use borrow.Author.Rules.{rules}
 use Rattle.errors_face.proofs.compute_residuals.Goals as goal
 
 pub returns-then-few_rows : goal.returns-then-few_rows

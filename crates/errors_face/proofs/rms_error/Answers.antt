@@ -1,5 +1,4 @@
 -- `errors_face::rms_error` meets its contract: what the inner call finds is handed out. Assumes nothing.
-use borrow.Author.Rules.{rules}
 use Rattle.errors_face.proofs.rms_error.Goals as goal
 
 pub returns : goal.returns

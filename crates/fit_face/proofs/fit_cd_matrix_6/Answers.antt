@@ -1,5 +1,4 @@
 -- `fit_face::fit_cd_matrix_6` meets its contract: the fit is put where there is room. Assumes nothing.
-use borrow.Author.Rules.{rules}
 use Rattle.fit_face.proofs.fit_cd_matrix_6.Goals as goal
 
 pub returns : goal.returns

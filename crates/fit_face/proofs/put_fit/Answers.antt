@@ -3,7 +3,6 @@ use mathlib.Core.Path.{ap, ◌∙◌}
 use lib.ListN.{length}
 use Rattle.answer.specs.Answers.{answer_number, room_for, in_turn}
 use Rattle.answer.proofs.Lent.{stays}
-use borrow.Author.Rules.{rules}
 use Rattle.fit_face.proofs.put_fit.Goals as goal
 
 pub returns-in-Refused : goal.returns-in-Refused

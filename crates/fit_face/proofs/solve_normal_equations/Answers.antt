@@ -1,5 +1,4 @@
 -- `fit_face::solve_normal_equations` meets its contract, which is that of the function it calls. Assumes nothing.
-use borrow.Author.Rules.{rules}
 use Rattle.fit_face.proofs.solve_normal_equations.Goals as goal
 
 pub returns : goal.returns

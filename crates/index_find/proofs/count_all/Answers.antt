@@ -1,16 +1,13 @@
 -- `index_find::count_all` meets its contract: what is found so far is counted, and kept as far as it goes. Assumes nothing.
-use borrow.Author.Rules.{rules}
 use Rattle.index_find.proofs.Call.{total_most}
 use Rattle.hash_index.proofs.Call.{counted_none, counted_more}
-use Rattle.hash_index.specs.Steps.{Counted}
 use Rattle.index_find.proofs.Kept.{held_none, held_most, held_more, over_next}
-use Rattle.index_find.specs.Steps.{Held, held_of}
+use Rattle.index_find.specs.Steps.{held_of}
 use Rattle.index_near.specs.Near.{near_hits}
 use Rattle.hash_near.specs.Over.{over}
 use lib.ListN.{length, length-set, length-append}
 use native.Mathlib.Omega.{arith}
 use mathlib.Core.Path.{◌≡◌, ◌∙◌, refl, sym, ap}
-use Prim.Native.Nat.{◌≤◌, ◌-◌}
 use Rattle.index_find.proofs.count_all.Goals as goal
 
 pub loop-i-init : goal.loop-i-init
@@ -39,7 +36,7 @@ loop-i-preserved c = let a = c.args in
     let f = near_hits a.table.now a.m a.hashes.now in
     let v = c.gather_near in
     let e = v.ensures.0 in
-    (omega arith, v.auto.found ∙ l.invariant.1, length-set l.counts l.i _ ∙ l.invariant.2, omega (arith, l.invariant.3, ap length (over_next f l.i), length-append (over f 0 l.i) (f l.i)), counted_more f l.i l.counts _ (omega (arith, l.invariant.2, c.requires.fact_1.few)) (omega arith) l.invariant.4, rw (over_next f l.i) (held_more (over f 0 l.i) (f l.i) l.auto _ c.held-from.result v.result (omega (arith, l.invariant.1)) l.invariant.5 (c.held-from.ensures ∙ ap held_of l.invariant.3) v.ensures))
+    (omega arith, v.auto.found ∙ l.invariant.1, length-set l.counts l.i _ ∙ l.invariant.2, omega (arith, l.invariant.3, ap length (over_next f l.i), length-append (over f 0 l.i) (f l.i)), counted_more f l.i l.counts _ (omega (arith, l.invariant.2, c.requires.fact_1.few)) (omega arith) l.invariant.4, rw (over_next f l.i) (held_more (over f 0 l.i) (f l.i) l.kept _ c.held-from.result v.result (omega (arith, l.invariant.1)) l.invariant.5 (c.held-from.ensures ∙ ap held_of l.invariant.3) v.ensures))
 
 pub shape_of-kept : goal.shape_of-kept
 shape_of-kept c = c.loop-i.invariant.1 ∙ sym c.requires.fact_2

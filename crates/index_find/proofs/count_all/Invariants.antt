@@ -1,16 +1,11 @@
 -- `index_find::count_all` meets its contract: what is found so far is counted, and kept as far as it goes. Assumes nothing.
-use borrow.Author.Rules.{rules}
-use Rattle.index_find.proofs.Call.{total_most}
-use Rattle.hash_index.proofs.Call.{counted_none, counted_more}
 use Rattle.hash_index.specs.Steps.{Counted}
-use Rattle.index_find.proofs.Kept.{held_none, held_most, held_more, over_next}
-use Rattle.index_find.specs.Steps.{Held, held_of}
+use Rattle.index_find.specs.Steps.{Held}
 use Rattle.index_near.specs.Near.{near_hits}
 use Rattle.hash_near.specs.Over.{over}
-use lib.ListN.{length, length-set, length-append}
-use native.Mathlib.Omega.{arith}
-use mathlib.Core.Path.{◌≡◌, ◌∙◌, refl, sym, ap}
-use Prim.Native.Nat.{◌≤◌, ◌-◌}
+use lib.ListN.{length}
+use mathlib.Core.Path.{◌≡◌}
+use Prim.Native.Nat.{◌≤◌}
 use Rattle.index_find.proofs.count_all.Given as goal
 
 abbrev pub invariant-loop-i : goal.invariant-loop-i

@@ -2,8 +2,6 @@
 use Rattle.hash_index.proofs.Call.{taken}
 use Rattle.index_find.specs.Indexed.{indexed_answer}
 use mathlib.Core.Path.{◌∙◌, refl, sym}
-use Prim.Native.Nat.{◌-◌}
-use borrow.Author.Rules.{rules}
 use Rattle.index_find.proofs.find_matches_indexed.Goals as goal
 
 pub put_checked-requires : goal.put_checked-requires

@@ -1,6 +1,5 @@
 -- `index_find::held` meets its contract: the test is the definition's. Assumes nothing.
 use borrow.Author.Tests.{lt-ltb, le-ltb}
-use Prim.Native.Nat.{◌-◌}
 use Rattle.index_find.proofs.held.Goals as goal
 
 pub returns-then-total-lt-KEPT : goal.returns-then-total-lt-KEPT

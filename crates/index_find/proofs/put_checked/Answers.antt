@@ -2,8 +2,6 @@
 use Rattle.index_table.proofs.Entries.{belongs_is}
 use borrow.Author.Tests.{not-true, not-false}
 use mathlib.Core.Path.{◌∙◌, refl, sym}
-use Prim.Native.Nat.{◌-◌}
-use borrow.Author.Rules.{rules}
 use mathlib.Core.Path.{ap}
 use mathlib.Core.Bool.{not}
 use Rattle.index_find.proofs.put_checked.Goals as goal

@@ -6,7 +6,7 @@ use Rattle.hash_index.specs.Matches.{matches_of}
 use lib.ListN.{length}
 use native.Mathlib.Omega.{arith}
 use mathlib.Core.Path.{◌≡◌, ◌∙◌, refl, sym, ap}
-use Prim.Native.Nat.{◌-◌, ◌*◌, ℕ, ◌/◌}
+use Prim.Native.Nat.{◌*◌, ℕ, ◌/◌}
 use borrow.Author.Rules.{rules}
 use Rattle.index_find.proofs.put_indexed.Goals.{After-counts-2-1}
 use Rattle.index_find.proofs.put_indexed.Goals as goal

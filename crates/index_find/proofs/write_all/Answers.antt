@@ -1,16 +1,15 @@
 -- `index_find::write_all` meets its contract: what is left, written from the next image quad on, comes to the whole. Assumes nothing.
-use borrow.Author.Rules.{rules}
 use native.Mathlib.Nat.{sub-zero}
 use Rattle.index_find.proofs.Kept.{over_next, eights, among, stands}
 use Rattle.index_find.specs.Steps.{image_matches}
-use Rattle.hash_write.proofs.Writing.{Writing, start, step, ended}
+use Rattle.hash_write.proofs.Writing.{start, step, ended}
 use Rattle.index_near.specs.Near.{near_hits}
 use Rattle.hash_near.proofs.Over.{over_more, over_end}
 use Rattle.hash_near.specs.Over.{over}
-use lib.ListN.{length, take, length-append}
+use lib.ListN.{length, length-append}
 use native.Mathlib.Omega.{arith}
-use mathlib.Core.Path.{◌≡◌, ◌∙◌, refl, sym, ap}
-use Prim.Native.Nat.{◌≤◌, ◌+◌, ◌-◌, ◌*◌, ℕ}
+use mathlib.Core.Path.{◌∙◌, refl, sym, ap}
+use Prim.Native.Nat.{◌+◌, ◌-◌, ℕ}
 use Rattle.index_find.proofs.write_all.Goals as goal
 
 pub loop-i-init : goal.loop-i-init
@@ -30,7 +29,7 @@ write_image-requires c = let a = c.args in
     let l = c.loop-i in
     let f = near_hits a.table.now a.m a.hashes.now in
     let t = c.loop-i-test.true in
-    let e = c.requires.searched_4 l.i t in record { fact_1 = record { hashed = omega (arith, c.requires.searched_1.hashed); few = omega (arith, c.requires.searched_1.few); ready = c.requires.searched_1.ready; near = c.requires.searched_1.near }; fact_2 = l.invariant.1; fact_3 = e; fact_4 = stands f a.n l.i t a.kept.now l.auto _ _ c.requires.held_1 l.invariant.2 l.invariant.3 e; fact_5 = omega (arith, among f a.n l.i t, e, l.invariant.3, l.invariant.4.long, c.requires.held_2) }
+    let e = c.requires.searched_4 l.i t in record { fact_1 = record { hashed = omega (arith, c.requires.searched_1.hashed); few = omega (arith, c.requires.searched_1.few); ready = c.requires.searched_1.ready; near = c.requires.searched_1.near }; fact_2 = l.invariant.1; fact_3 = e; fact_4 = stands f a.n l.i t a.kept.now l.kept _ _ c.requires.held_1 l.invariant.2 l.invariant.3 e; fact_5 = omega (arith, among f a.n l.i t, e, l.invariant.3, l.invariant.4.long, c.requires.held_2) }
 
 pub overflow_add-s : goal.overflow_add-s
 overflow_add-s c = let a = c.args in

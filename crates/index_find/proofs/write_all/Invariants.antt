@@ -1,16 +1,11 @@
 -- `index_find::write_all` meets its contract: what is left, written from the next image quad on, comes to the whole. Assumes nothing.
-use borrow.Author.Rules.{rules}
-use native.Mathlib.Nat.{sub-zero}
-use Rattle.index_find.proofs.Kept.{over_next, eights, among, stands}
 use Rattle.index_find.specs.Steps.{image_matches}
-use Rattle.hash_write.proofs.Writing.{Writing, start, step, ended}
+use Rattle.hash_write.proofs.Writing.{Writing}
 use Rattle.index_near.specs.Near.{near_hits}
-use Rattle.hash_near.proofs.Over.{over_more, over_end}
 use Rattle.hash_near.specs.Over.{over}
-use lib.ListN.{length, take, length-append}
-use native.Mathlib.Omega.{arith}
-use mathlib.Core.Path.{◌≡◌, ◌∙◌, refl, sym, ap}
-use Prim.Native.Nat.{◌≤◌, ◌+◌, ◌-◌, ◌*◌, ℕ}
+use lib.ListN.{length, take}
+use mathlib.Core.Path.{◌≡◌}
+use Prim.Native.Nat.{◌≤◌, ◌-◌, ◌*◌}
 use Rattle.index_find.proofs.write_all.Given as goal
 
 abbrev pub invariant-loop-i : goal.invariant-loop-i

@@ -3,8 +3,6 @@ use Rattle.index_find.proofs.Kept.{again}
 use Rattle.index_near.specs.Near.{near_hits}
 use native.Mathlib.Omega.{arith}
 use mathlib.Core.Path.{refl}
-use Prim.Native.Nat.{◌-◌}
-use borrow.Author.Rules.{rules}
 use Rattle.index_find.proofs.write_image.Goals as goal
 
 pub returns-then-s-near-le-KEPT : goal.returns-then-s-near-le-KEPT

@@ -1,13 +1,12 @@
 -- `index_find::write_near` meets its contract: what is left, written from q on, comes to the whole. Assumes nothing.
-use borrow.Author.Rules.{rules}
 use Rattle.index_find.proofs.Kept.{next_place}
-use Rattle.hash_write.proofs.Writing.{Writing, start, step, ended, each_end}
+use Rattle.hash_write.proofs.Writing.{start, step, ended, each_end}
 use Rattle.hash_write.specs.Write.{eight}
 use Rattle.hash_near.specs.Over.{each}
 use lib.ListN.{take, drop, get_or}
 use native.Mathlib.Omega.{arith}
-use mathlib.Core.Path.{◌≡◌, refl}
-use Prim.Native.Nat.{◌≤◌, ◌+◌, ◌-◌, ◌*◌}
+use mathlib.Core.Path.{refl}
+use Prim.Native.Nat.{◌+◌}
 use Rattle.index_find.proofs.write_near.Goals as goal
 
 pub loop-t-init : goal.loop-t-init

@@ -1,7 +1,6 @@
 -- `matching_face::build_hash_index` meets its contract: the inner call decides, and its number is handed out. Assumes nothing.
 use Rattle.answer.specs.Answers.{answer_number}
 use mathlib.Core.Path.{ap, ◌∙◌}
-use borrow.Author.Rules.{rules}
 use Rattle.matching_face.proofs.build_hash_index.Goals as goal
 
 pub returns : goal.returns

@@ -1,7 +1,6 @@
 -- `matching_face::extract_pairs` meets its contract: the inner call decides, and the count is handed out where it is done. Assumes nothing.
 use mathlib.Core.Path.{refl, sym, ◌∙◌}
 use Rattle.matching_face.proofs.Counts.{pairs_counted}
-use borrow.Author.Rules.{rules}
 use Rattle.matching_face.proofs.extract_pairs.Goals as goal
 
 pub returns-in-Refused : goal.returns-in-Refused

@@ -1,7 +1,6 @@
 -- `matching_face::find_matches` meets its contract: the inner call decides, and the count is handed out where it is done. Assumes nothing.
 use mathlib.Core.Path.{sym, ◌∙◌}
 use Rattle.matching_face.proofs.Counts.{matches_counted}
-use borrow.Author.Rules.{rules}
 use Rattle.matching_face.proofs.find_matches.Goals as goal
 
 pub returns-in-Refused : goal.returns-in-Refused

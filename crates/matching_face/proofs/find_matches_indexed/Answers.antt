@@ -1,7 +1,6 @@
 -- `matching_face::find_matches_indexed` meets its contract: the inner call decides, and the count is handed out where it is done. Assumes nothing.
 use Rattle.matching_face.proofs.Counts.{indexed_counted}
 use mathlib.Core.Path.{sym, ◌∙◌}
-use borrow.Author.Rules.{rules}
 use Rattle.matching_face.proofs.find_matches_indexed.Goals as goal
 
 pub returns-in-Refused : goal.returns-in-Refused

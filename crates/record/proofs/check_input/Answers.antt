@@ -1,7 +1,6 @@
 -- `record::check_input` meets its contract: each test has its own return. Assumes nothing.
 use borrow.Author.Tests.{lt-ltb, le-ltb}
 use Rattle.record.specs.Record.{input_answer}
-use borrow.Author.Rules.{rules}
 use mathlib.Core.Path.{ap}
 use mathlib.Core.Bool.{not}
 use Rattle.record.proofs.check_input.Goals as goal

@@ -1,7 +1,6 @@
 -- `record::lengths_fit` meets its contract: the tests are the definition's. Assumes nothing.
 use Rattle.record.proofs.Laws.{in_order}
 use Rattle.record.specs.Record.{lengths_fit}
-use borrow.Author.Rules.{rules}
 use mathlib.Core.Path.{ap}
 use mathlib.Core.Bool.{not}
 use Rattle.record.proofs.lengths_fit.Goals as goal

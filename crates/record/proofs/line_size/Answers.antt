@@ -1,6 +1,5 @@
 -- `record::line_size` meets its contract: the test is the definition's. Assumes nothing.
 use native.Mathlib.Omega.{arith}
-use borrow.Author.Rules.{rules}
 use Rattle.record.proofs.line_size.Goals as goal
 
 pub returns-then-is_kept : goal.returns-then-is_kept

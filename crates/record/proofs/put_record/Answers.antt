@@ -4,7 +4,6 @@ use Rattle.put.proofs.Writing.{same_room, same_text}
 use Rattle.record_format.specs.Formats.{newest_format}
 use Rattle.record.specs.Record.{solution}
 use Rattle.record.proofs.Laws.{checked, parts_record}
-use borrow.Author.Rules.{rules}
 use Rattle.record.proofs.put_record.Goals as goal
 
 pub of-first-requires : goal.of-first-requires

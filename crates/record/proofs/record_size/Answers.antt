@@ -1,5 +1,4 @@
 -- `record::record_size` meets its contract: a sum. Assumes nothing.
-use borrow.Author.Rules.{rules}
 use Rattle.record.proofs.record_size.Goals as goal
 
 pub returns : goal.returns

@@ -1,11 +1,6 @@
 -- `record::terms_size` meets its contract: the loop's invariant: what is counted, and what the coefficients that are left take, come to the whole. Assumes nothing.
 use lib.Ieee.{nan}
-use borrow.Author.Rules.{rules}
 use native.Mathlib.Omega.{arith}
-use lib.ListN.{length, drop}
-use mathlib.Core.Path.{◌≡◌}
-use Prim.Native.Nat.{◌≤◌, ◌+◌, ◌*◌, ◌-◌}
-use Rattle.record.specs.Record.{terms_size}
 use Rattle.record.proofs.Laws.{size_more, size_none}
 use Rattle.record.proofs.terms_size.Goals as goal
 

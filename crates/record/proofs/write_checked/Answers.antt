@@ -4,7 +4,6 @@ use native.Mathlib.Omega.{arith}
 use Rattle.record_format.specs.Formats.{newest_format}
 use Rattle.record.specs.Record.{solution, record_text}
 use Rattle.record.proofs.Laws.{checked, record_size_lem, room_is, not_written, all_written}
-use borrow.Author.Rules.{rules}
 use Rattle.record.proofs.write_checked.Goals as goal
 
 pub record_size-size-requires : goal.record_size-size-requires

@@ -1,6 +1,5 @@
 -- `record::write_record` meets its contract: a refusal keeps the text, and the room decides of an input that passed its tests. Assumes nothing.
 use mathlib.Core.Path.{refl, sym, ◌∙◌}
-use borrow.Author.Rules.{rules}
 use Rattle.record.proofs.write_record.Goals as goal
 
 pub write_checked-requires : goal.write_checked-requires

@@ -1,6 +1,5 @@
 -- `record_face::places` meets its contract: each way is that of the definition. Assumes nothing.
 use native.Mathlib.Omega.{arith}
-use borrow.Author.Rules.{rules}
 use Rattle.record_face.proofs.places.Goals as goal
 
 pub returns-then-wcs-sums : goal.returns-then-wcs-sums

@@ -1,8 +1,5 @@
 -- `record_face::put_loaded` meets its contract: each way fills in what its answer holds. Assumes nothing.
 use mathlib.Core.Path.{refl}
-use Rattle.record_load.specs.Load.{loaded_number}
-use Rattle.record_face.specs.Read.{lent}
-use borrow.Author.Rules.{rules}
 use Rattle.record_face.proofs.put_loaded.Goals as goal
 
 pub put_sip-requires : goal.put_sip-requires

@@ -1,10 +1,9 @@
 -- `record_face::read_record` meets its contract: the inner call reads, and what it answers is filled in. Assumes nothing.
-use mathlib.Core.Path.{refl, sym, ap, ◌∙◌}
+use mathlib.Core.Path.{refl, sym}
 use lib.ListN.{length}
 use lib.Seq.{length-take-le}
 use Rattle.record_face.specs.Read.{lent}
-use Rattle.record_face.proofs.Read.{Steps, read_is, room_read}
-use borrow.Author.Rules.{rules}
+use Rattle.record_face.proofs.Read.{read_is, room_read}
 use Rattle.record_face.proofs.read_record.Goals as goal
 
 pub slice_bounds-read_record-end-2 : goal.slice_bounds-read_record-end-2
@@ -17,5 +16,5 @@ pub returns : goal.returns
 returns c =
     let g = c.args in
     let room = c.places-room.ensures.0 in
-    read_is g.text.now (lent g.format.now g.rows-used.now g.wcs.now g.order.now g.a.now g.b.now g.sums.now g.line.now) _ c.read_record-read.result _ _ _
+    read_is g.text.now (lent g.format.now g.rows_used.now g.wcs.now g.order.now g.a.now g.b.now g.sums.now g.line.now) _ c.read_record-read.result _ _ _
     (record { inner = (rw room at c.read_record-read.ensures); number = c.put_loaded.ensures.number; a_is = rw room refl; b_is = refl; rest = c.put_loaded.ensures.after })

@@ -5,7 +5,6 @@ use mathlib.Core.Path.{refl, sym, ◌∙◌}
 use lib.ListN.{length}
 use Rattle.record.specs.Record.{solution, record_text, record_done}
 use Rattle.record_face.proofs.Ended.{refused, done, six_three}
-use borrow.Author.Rules.{rules}
 use Rattle.record_face.proofs.write_record.Goals as goal
 
 pub returns-then-rows-gt-MOST_ROWS : goal.returns-then-rows-gt-MOST_ROWS

@@ -2,7 +2,6 @@
 use lib.ListN.{length}
 use Rattle.record_load.proofs.Laws.{room_of}
 use mathlib.Core.Path.{refl, sym, ◌∙◌}
-use borrow.Author.Rules.{rules}
 use Rattle.record_load.proofs.hand_both.Goals as goal
 
 pub hand_out-requires : goal.hand_out-requires

@@ -2,7 +2,6 @@
 use lib.Seq.{length-take-le}
 use lib.ListN.{length}
 use mathlib.Core.Path.{sym}
-use borrow.Author.Rules.{rules}
 use Rattle.record_load.proofs.hand_out.Goals as goal
 
 pub slice_bounds-copy_row-end-2 : goal.slice_bounds-copy_row-end-2

@@ -4,7 +4,6 @@ use native.Mathlib.Omega.{arith}
 use lib.Seq.{length-take-le}
 use Rattle.record_reader.specs.Reading.{record_in}
 use Rattle.record_load.proofs.Laws.{handed}
-use borrow.Author.Rules.{rules}
 use Rattle.record_load.proofs.read_record.Goals as goal
 
 pub slice_bounds-hand_both-end : goal.slice_bounds-hand_both-end

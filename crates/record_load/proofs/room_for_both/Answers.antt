@@ -1,5 +1,4 @@
 -- `record_load::room_for_both` meets its contract: the first refusal of two. Assumes nothing.
-use borrow.Author.Rules.{rules}
 use Rattle.record_load.proofs.room_for_both.Goals as goal
 
 pub returns-in-Refused : goal.returns-in-Refused

@@ -1,5 +1,4 @@
 -- `record_program::put_number` meets its contract: a line under the term's name. Assumes nothing.
-use borrow.Author.Rules.{rules}
 use Rattle.record_program.proofs.put_number.Goals as goal
 
 pub put_float_line-requires : goal.put_float_line-requires

@@ -1,15 +1,9 @@
 -- `record_program::put_numbers` meets its contract: the loop's invariant: what is put, and the lines of the coefficients that are left, come to the whole; and the next term is at hand. Assumes nothing.
-use borrow.Author.Rules.{rules}
 use native.Mathlib.Omega.{arith}
-use lib.ListN.{length, drop}
-use Prim.Native.Nat.{◌≤◌, ◌-◌}
-use mathlib.Core.Path.{◌≡◌}
 use Rattle.sip_terms.proofs.Places.{low_term, term_more}
-use Rattle.sip_terms.specs.Terms.{first_term, term_at}
-use Rattle.record_lines.specs.Lines.{text_of}
+use Rattle.sip_terms.specs.Terms.{term_at}
 use Rattle.record_program.proofs.Texts.{all_more, all_none}
-use Rattle.put.proofs.Writing.{Going, going_start, going_step, going_end, going_room, room_first, same_rest}
-use Rattle.record_program.specs.Program.{all_lines}
+use Rattle.put.proofs.Writing.{going_start, going_step, going_end, going_room, room_first, same_rest}
 use Rattle.record_program.proofs.put_numbers.Goals as goal
 
 pub loop-i-init : goal.loop-i-init

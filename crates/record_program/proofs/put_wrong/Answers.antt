@@ -1,6 +1,5 @@
 -- `record_program::put_wrong` meets its contract: two lines, one after the other. Assumes nothing.
 use Rattle.put.proofs.Writing.{then, room_first, room_next}
-use borrow.Author.Rules.{rules}
 use Rattle.record_program.specs.Program.{wrong_text}
 use Rattle.record_program.proofs.put_wrong.Goals as goal
 

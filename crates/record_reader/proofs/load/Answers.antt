@@ -6,7 +6,6 @@ use lib.ListN.{length}
 use Prim.Native.Nat.{◌≤◌}
 use mathlib.Core.Path.{sym, ◌∙◌}
 use native.Mathlib.Omega.{arith}
-use borrow.Author.Rules.{rules}
 use Rattle.record_reader.proofs.load.Goals as goal
 
 pub slice_bounds-read_terms-end : goal.slice_bounds-read_terms-end

@@ -3,7 +3,6 @@ use Prim.Native.Nat.{◌≤◌}
 use native.Mathlib.Omega.{arith}
 use Rattle.record_scan.specs.Slots.{read_slots}
 use Rattle.record_format.proofs.Laws.{orders_of}
-use borrow.Author.Rules.{rules}
 use Rattle.record_reader.proofs.read_cd.Goals as goal
 
 pub whole_line-order-requires : goal.whole_line-order-requires

@@ -1,6 +1,5 @@
 -- `record_reader::read_errors` meets its contract: its lines are those of the slots, one after the other. Assumes nothing.
 use Rattle.record_scan.specs.Slots.{read_slots}
-use borrow.Author.Rules.{rules}
 use Rattle.record_reader.proofs.read_errors.Goals as goal
 
 pub returns : goal.returns

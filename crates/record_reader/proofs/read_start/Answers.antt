@@ -1,7 +1,6 @@
 -- `record_reader::read_start` meets its contract: its lines are those of the slots, one after the other. Assumes nothing.
 use native.Mathlib.Omega.{arith}
 use Rattle.record_scan.specs.Slots.{read_slots}
-use borrow.Author.Rules.{rules}
 use Rattle.record_reader.proofs.read_start.Goals as goal
 
 pub returns : goal.returns

@@ -1,15 +1,11 @@
 -- `record_reader::read_terms` meets its contract: the loop's invariant: the numbers that were filled in, with those of the terms that are left, are all of them. Assumes nothing.
-use Rattle.record_reader.proofs.Laws.{Filling, filling_start, filling_step, filling_end}
+use Rattle.record_reader.proofs.Laws.{filling_start, filling_step, filling_end}
 use Rattle.record_format.specs.Formats.{solved_by}
-use Rattle.record_scan.specs.Slots.{read_slots}
 use Rattle.sip_terms.proofs.Places.{low_term, term_more}
-use Rattle.sip_terms.specs.Terms.{first_term, term_at}
-use lib.ListN.{length, length-set}
-use Prim.Native.Nat.{◌+◌, ◌-◌, ◌≤◌}
-use mathlib.Core.Path.{◌≡◌, refl, ap, ◌∙◌}
+use Rattle.sip_terms.specs.Terms.{term_at}
+use lib.ListN.{length-set}
+use mathlib.Core.Path.{refl, ap, ◌∙◌}
 use native.Mathlib.Omega.{arith}
-use borrow.Author.Rules.{rules}
-use Rattle.record_lines.specs.Table.{term_slots}
 use Rattle.record_reader.proofs.read_terms.Goals as goal
 
 pub loop-i-init : goal.loop-i-init

@@ -2,7 +2,6 @@
 use mathlib.Core.Path.{sym, ◌∙◌}
 use Rattle.record_scan.specs.Slots.{test_of}
 use Rattle.record_scan.proofs.Laws.{real_missed, real_found, slot_near}
-use borrow.Author.Rules.{rules}
 use Rattle.record_scan.proofs.real_line.Goals as goal
 
 pub returns-in-Wrong : goal.returns-in-Wrong

@@ -1,7 +1,6 @@
 -- `record_scan::step` meets its contract: each way out is that of the definition. Assumes nothing.
 use mathlib.Core.Bool.{◌&&◌}
 use borrow.Author.Tests.{not-true, not-false}
-use borrow.Author.Rules.{rules}
 use mathlib.Core.Path.{ap}
 use mathlib.Core.Bool.{not}
 use Rattle.record_scan.proofs.step.Goals as goal

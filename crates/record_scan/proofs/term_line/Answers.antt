@@ -1,5 +1,4 @@
 -- `record_scan::term_line` meets its contract: a line under the term's name. Assumes nothing.
-use borrow.Author.Rules.{rules}
 use Rattle.record_scan.proofs.term_line.Goals as goal
 
 pub returns : goal.returns

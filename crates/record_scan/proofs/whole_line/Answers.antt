@@ -1,7 +1,6 @@
 -- `record_scan::whole_line` meets its contract: the field is read where the slot's line stands. Assumes nothing.
 use mathlib.Core.Path.{sym, ◌∙◌}
 use Rattle.record_scan.proofs.Laws.{whole_missed, whole_found, whole_near}
-use borrow.Author.Rules.{rules}
 use Rattle.record_scan.proofs.whole_line.Goals as goal
 
 pub returns-in-Wrong : goal.returns-in-Wrong

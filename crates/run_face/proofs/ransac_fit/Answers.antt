@@ -1,6 +1,5 @@
 -- `run_face::ransac_fit` meets its contract: the inner call decides, and its count is handed out where it is done. Assumes nothing.
 use mathlib.Core.Path.{refl}
-use borrow.Author.Rules.{rules}
 use Rattle.cd_run.specs.declared.CdRun.TheVariants as run
 use Rattle.run_face.proofs.Terms.{demanded}
 use Rattle.run_face.proofs.ransac_fit.Goals as goal

@@ -1,7 +1,6 @@
 -- `sip::fit_checked` meets its contract: the lists that are lent are as long as the terms. Assumes nothing.
 use lib.Seq.{length-take-le}
 use mathlib.Core.Path.{sym}
-use borrow.Author.Rules.{rules}
 use Rattle.sip.proofs.fit_checked.Goals as goal
 
 pub slice_bounds-x-end : goal.slice_bounds-x-end

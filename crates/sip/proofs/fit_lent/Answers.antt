@@ -6,7 +6,6 @@ use Rattle.rows.specs.Rows.{rows}
 use lib.ListN.{length, length-replicate}
 use native.Mathlib.Omega.{arith}
 use mathlib.Core.Path.{◌≡◌, ◌∙◌, sym}
-use borrow.Author.Rules.{rules}
 use Rattle.sip.proofs.fit_lent.Goals as goal
 
 pub put_lines-requires : goal.put_lines-requires

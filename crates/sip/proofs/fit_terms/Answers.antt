@@ -6,7 +6,6 @@ use mathlib.Core.Path.{sym}
 use lib.ListN.{length}
 use lib.Seq.{length-take-le}
 use Rattle.sip_terms.proofs.Told.{take_replicate}
-use borrow.Author.Rules.{rules}
 use Rattle.sip.proofs.fit_terms.Goals as goal
 
 -- six powers of a hundred rows at most

@@ -6,7 +6,6 @@ use Rattle.sip_clip.proofs.Rejecting.{clip_done}
 use lib.ListN.{length}
 use native.Mathlib.Omega.{arith}
 use mathlib.Core.Path.{◌≡◌, ◌∙◌}
-use borrow.Author.Rules.{rules}
 use Rattle.sip_clip.proofs.clip.Goals as goal
 
 pub limit_of-limit-requires : goal.limit_of-limit-requires

@@ -1,5 +1,4 @@
 -- `sip_clip::limit_of` meets its contract: both do the same rounded operations. Assumes nothing.
-use borrow.Author.Rules.{rules}
 use Rattle.sip_clip.proofs.limit_of.Goals as goal
 
 pub returns : goal.returns

@@ -4,7 +4,6 @@ use lib.Seq.{length-take-le}
 use Rattle.cd_plate.specs.Plate.{nothing}
 use lib.ListN.{length}
 use mathlib.Core.Path.{sym}
-use borrow.Author.Rules.{rules}
 use Rattle.sip_clip.proofs.put_errors.Goals as goal
 
 pub slice_bounds-x-end : goal.slice_bounds-x-end

@@ -5,7 +5,6 @@ use Rattle.rows.specs.Rows.{rows}
 use lib.ListN.{length, length-replicate}
 use mathlib.Core.Path.{◌≡◌, ◌∙◌}
 use native.Mathlib.Omega.{arith}
-use borrow.Author.Rules.{rules}
 use Rattle.sip_clip.proofs.put_errors_in.Goals as goal
 
 pub put_values-requires : goal.put_values-requires

@@ -1,12 +1,9 @@
 -- `sip_clip::put_lengths` meets its contract: after k rows the first k places are filled. Assumes nothing.
-use Rattle.rows.specs.Rows.{rows}
-use Rattle.cd_plate.proofs.Filling.{Front, start, again}
-use Rattle.sip_clip.specs.Steps.{error_in}
+use Rattle.cd_plate.proofs.Filling.{start, again}
 use lib.ListN.{length, drop_of_length-le}
 use native.Mathlib.Omega.{arith}
 use mathlib.Core.List.{append-nil}
 use mathlib.Core.Path.{◌≡◌, ◌∙◌}
-use Prim.Native.Nat.{◌≤◌, ◌-◌}
 use borrow.Author.Rules.{rules}
 use Rattle.sip_clip.proofs.put_lengths.Goals as goal
 

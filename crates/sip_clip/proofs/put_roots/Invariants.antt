@@ -1,12 +1,9 @@
 -- `sip_clip::put_roots` meets its contract: after k rows the first k places are filled. Assumes nothing.
-use borrow.Author.Rules.{rules}
 use Rattle.sip_clip.specs.Clip.{root_at}
-use Rattle.cd_plate.proofs.Filling.{Front, start, again}
-use lib.ListN.{length, drop_of_length-le}
-use native.Mathlib.Omega.{arith}
-use mathlib.Core.List.{append-nil}
-use mathlib.Core.Path.{◌≡◌, ◌∙◌}
-use Prim.Native.Nat.{◌≤◌, ◌-◌}
+use Rattle.cd_plate.proofs.Filling.{Front}
+use lib.ListN.{length}
+use mathlib.Core.Path.{◌≡◌}
+use Prim.Native.Nat.{◌≤◌}
 use Rattle.sip_clip.proofs.put_roots.Given as goal
 
 abbrev pub invariant-loop-k : goal.invariant-loop-k

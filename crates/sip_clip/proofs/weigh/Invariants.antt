@@ -1,11 +1,8 @@
 -- `sip_clip::weigh` meets its contract: after k rows the sum is that of the first k. Assumes nothing.
-use borrow.Author.Rules.{rules}
 use Rattle.sip_clip.specs.Clip.{weighed_to}
 use lib.ListN.{length}
-use native.Mathlib.Omega.{arith}
-use native.Mathlib.Numerals.{add-one}
-use mathlib.Core.Path.{◌≡◌, ◌∙◌}
-use Prim.Native.Nat.{◌≤◌, ◌-◌}
+use mathlib.Core.Path.{◌≡◌}
+use Prim.Native.Nat.{◌≤◌}
 use Rattle.sip_clip.proofs.weigh.Given as goal
 
 abbrev pub invariant-loop-k : goal.invariant-loop-k

@@ -4,7 +4,6 @@ use Rattle.sip_sums.specs.Field.{field}
 use Rattle.rows.specs.Rows.{rows}
 use lib.ListN.{length}
 use mathlib.Core.Path.{◌∙◌}
-use borrow.Author.Rules.{rules}
 use Rattle.sip_face.proofs.fit_roomless.Goals as goal
 
 pub returns : goal.returns

@@ -5,7 +5,6 @@ use Rattle.rows.specs.Rows.{rows}
 use borrow.Author.Tests.{eq-eqb, ne_eqb, lt-ltb, le-ltb}
 use lib.ListN.{length}
 use mathlib.Core.Path.{refl}
-use borrow.Author.Rules.{rules}
 use Rattle.sip_face.proofs.fit_sip.Goals as goal
 
 pub returns-then-few_rows-snr : goal.returns-then-few_rows-snr

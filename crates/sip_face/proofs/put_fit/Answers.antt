@@ -1,6 +1,5 @@
 -- `sip_face::put_fit` meets its contract: a fit that is done is put, and any other leaves what is lent. Assumes nothing.
 use mathlib.Core.Path.{refl}
-use borrow.Author.Rules.{rules}
 use Rattle.sip_face.proofs.put_fit.Goals as goal
 
 pub returns-in-Refused : goal.returns-in-Refused

@@ -1,5 +1,4 @@
 -- `sip_rms::linear_rms` meets its contract: the calls give what the definition names. Assumes nothing.
-use borrow.Author.Rules.{rules}
 use Rattle.sip_rms.proofs.linear_rms.Goals as goal
 
 pub returns : goal.returns

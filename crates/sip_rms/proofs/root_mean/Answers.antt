@@ -1,6 +1,5 @@
 -- `sip_rms::root_mean` meets its contract: no number has its own return. Assumes nothing.
 use borrow.Author.Tests.{eq-eqb, ne_eqb}
-use borrow.Author.Rules.{rules}
 use Rattle.sip_rms.proofs.root_mean.Goals as goal
 
 pub returns-then-n-eq0 : goal.returns-then-n-eq0

@@ -1,5 +1,4 @@
 -- `sip_rms::root_share` meets its contract: the test decides. Assumes nothing.
-use borrow.Author.Rules.{rules}
 use Rattle.sip_rms.proofs.root_share.Goals as goal
 
 pub returns-then-weights : goal.returns-then-weights

@@ -2,7 +2,6 @@
 use Rattle.cd_mask.proofs.Marking.{ones_few}
 use Rattle.sip_rms.specs.Rms.{sip_of}
 use native.Mathlib.Omega.{arith}
-use borrow.Author.Rules.{rules}
 use Rattle.sip_rms.proofs.sip_of.Goals as goal
 
 pub root_mean-rms-requires : goal.root_mean-rms-requires

@@ -1,11 +1,8 @@
 -- `sip_rms::sum_errors` meets its contract: after k rows the sums are those of the first k. Assumes nothing.
-use borrow.Author.Rules.{rules}
 use Rattle.sip_rms.specs.Rms.{totals_to}
 use lib.ListN.{length}
-use native.Mathlib.Omega.{arith}
-use native.Mathlib.Numerals.{add-one}
-use mathlib.Core.Path.{◌≡◌, ◌∙◌}
-use Prim.Native.Nat.{◌≤◌, ◌-◌}
+use mathlib.Core.Path.{◌≡◌}
+use Prim.Native.Nat.{◌≤◌}
 use Rattle.sip_rms.proofs.sum_errors.Given as goal
 
 abbrev pub invariant-loop-k : goal.invariant-loop-k

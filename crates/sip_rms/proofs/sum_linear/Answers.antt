@@ -1,12 +1,10 @@
 -- `sip_rms::sum_linear` meets its contract: after k rows the sum is that of the first k. Assumes nothing.
 use borrow.Author.Rules.{rules}
 use Rattle.sip_rms.specs.Rms.{linear_to}
-use Rattle.rows.specs.Rows.{rows}
 use lib.ListN.{length}
 use native.Mathlib.Omega.{arith}
 use native.Mathlib.Numerals.{add-one}
 use mathlib.Core.Path.{◌≡◌, ◌∙◌}
-use Prim.Native.Nat.{◌≤◌, ◌-◌}
 use Rattle.sip_rms.proofs.sum_linear.Goals as goal
 
 pub loop-k-init : goal.loop-k-init

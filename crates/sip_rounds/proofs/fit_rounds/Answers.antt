@@ -1,13 +1,10 @@
 -- `sip_rounds::fit_rounds` meets its contract: what is left of the rounds, from the mask at hand, comes to the whole. Assumes nothing.
-use borrow.Author.Rules.{rules}
 use Rattle.sip_rounds.proofs.Turns.{round_failed, round_ended, round_goes_on, errors_kept, round_last}
-use Rattle.sip_rounds.specs.Rounds.{rounds_from}
 use Rattle.sip_sums.specs.Field.{field}
 use Rattle.rows.specs.Rows.{rows}
-use lib.ListN.{length}
 use native.Mathlib.Omega.{arith}
 use mathlib.Core.Path.{◌≡◌, ◌∙◌, sym}
-use Prim.Native.Nat.{◌≤◌, ◌-◌, ℕ}
+use Prim.Native.Nat.{ℕ}
 use Rattle.sip_rounds.proofs.fit_rounds.Goals as goal
 
 pub solve_errors-r-requires : goal.solve_errors-r-requires

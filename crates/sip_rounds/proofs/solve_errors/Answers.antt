@@ -5,7 +5,6 @@ use Rattle.rows.specs.Rows.{rows}
 use native.Mathlib.Omega.{arith}
 use mathlib.Core.Path.{◌≡◌, ◌∙◌, sym}
 use Prim.Native.Nat.{ℕ, ◌+◌}
-use borrow.Author.Rules.{rules}
 use Rattle.sip_rounds.proofs.solve_errors.Goals as goal
 
 pub solve_both-requires : goal.solve_both-requires

@@ -1,5 +1,4 @@
 -- `sip_tests::check_call` meets its contract: the tests of what is read decide, then the others. Assumes nothing.
-use borrow.Author.Rules.{rules}
 use Rattle.sip_tests.proofs.check_call.Goals as goal
 
 pub returns-in-Refused : goal.returns-in-Refused

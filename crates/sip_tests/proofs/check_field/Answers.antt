@@ -1,6 +1,5 @@
 -- `sip_tests::check_field` meets its contract: each test has its own return. Assumes nothing.
 use Rattle.sip_tests.specs.Tests.{field_answer}
-use borrow.Author.Rules.{rules}
 use mathlib.Core.Path.{ap}
 use mathlib.Core.Bool.{not}
 use Rattle.sip_tests.proofs.check_field.Goals as goal

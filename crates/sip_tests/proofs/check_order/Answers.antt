@@ -2,7 +2,6 @@
 use Rattle.sip_tests.proofs.Passed.{in_order}
 use native.Mathlib.Omega.{arith}
 use Rattle.sip_tests.specs.Tests.{order_answer}
-use borrow.Author.Rules.{rules}
 use Rattle.sip_tests.proofs.check_order.Goals as goal
 
 pub returns-then-order : goal.returns-then-order

@@ -1,5 +1,4 @@
 -- `record_load::Loaded::of` meets its contract: each way is that of the definition. Assumes nothing.
-use borrow.Author.Rules.{rules}
 use Rattle.record_load.proofs.Loaded.of.Goals as goal
 
 pub returns-in-Is : goal.returns-in-Is

@@ -1,7 +1,6 @@
 -- `record_reader::Shown::terms` meets its contract: an order that is shown is fitted, and has at most 18 terms. Assumes nothing.
 use native.Mathlib.Omega.{arith}
 use Rattle.sip_terms.proofs.Places.{few_terms}
-use borrow.Author.Rules.{rules}
 use Rattle.record_reader.proofs.Shown.terms.Goals as goal
 
 pub term_count-requires : goal.term_count-requires

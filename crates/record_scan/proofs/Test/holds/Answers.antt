@@ -1,5 +1,4 @@
 -- `record_scan::Test::holds` meets its contract: each way is the test of that name. Assumes nothing.
-use borrow.Author.Rules.{rules}
 use Rattle.record_scan.proofs.Test.holds.Goals as goal
 
 pub returns-in-Position : goal.returns-in-Position

@@ -1,5 +1,4 @@
 -- `sip_rms::Totals::with_error_if` meets its contract: the test decides. Assumes nothing.
-use borrow.Author.Rules.{rules}
 use Rattle.sip_rms.proofs.Totals.with_error_if.Goals as goal
 
 pub returns-then-on : goal.returns-then-on
