@@ -2,6 +2,8 @@
 // output, in the form of oracle/README.md. A lent output starts filled with the byte a5, as there.
 #![tactic(auto)]
 
+ghost use Rattle.std.specs.Prelude.{◌≡◌, length};
+
 use scan::Place;
 use std::io;
 use std::io::{Stdout, Write};
@@ -269,8 +271,15 @@ fn answer_all(out: &mut Stdout, s: &[u8]) -> io::Result<()> {
     Ok(())
 }
 
+// Room for all cases. The length is promised, so that no proof about the room writes its bytes out.
+fn room() -> [u8; 524288]
+    ensures { 524288 ≡ length result }
+{
+    [0; 524288]
+}
+
 fn main(rt: HostRuntime) -> io::Result<()> {
-    let mut cases = [0u8; 524288];
+    let mut cases = room();
     let n = streams::read_full(&mut rt.stdin(), &mut cases)?;
     answer_all(&mut rt.stdout(), &cases[..n])
 }

@@ -71,13 +71,23 @@ pub fn finish<'a>(w: Writer<'a>) -> usize
     w.at
 }
 
-// Writes a whole record, and says how long it is.
+// Takes a writer over the bytes through each part of a record. The writer that it hands on holds the same bytes, lent for as long.
+fn write_parts<'a>(buf: &'a mut [u8], start: Head, a: Axis, b: Axis, fit: Sip) -> Writer<'a>
+    requires { (a.terms ≤ 18) × (b.terms ≤ 18) × Room buf.old 0 (parts_text start a b fit) }
+    ensures same_reference { result.buf.ghost_name ≡ buf.entry.ghost_name }
+    ensures wrote { Put buf.old 0 (parts_text start a b fit) result.at result.buf.now }
+{
+    let w = head(new(buf), start);
+    let w = axis(w, a);
+    let w = axis(w, b);
+    errors(w, fit)
+}
+
+// Writes a whole record through a writer, and says how long it is.
 pub fn write_lines(buf: &mut [u8], start: Head, a: Axis, b: Axis, fit: Sip) -> usize
     requires { (a.terms ≤ 18) × (b.terms ≤ 18) × Room buf.old 0 (parts_text start a b fit) }
     ensures { Put buf.old 0 (parts_text start a b fit) result buf.new }
 {
-    let at = record_lines::put_head(buf, 0, start);
-    let at = record_lines::put_axis(buf, at, a);
-    let at = record_lines::put_axis(buf, at, b);
-    record_lines::put_errors(buf, at, fit)
+    let w = write_parts(buf, start, a, b, fit);
+    finish(w)
 }

@@ -2,7 +2,6 @@
 use native.Mathlib.Omega.{arith}
 use lib.ListN.{drop}
 use Rattle.scan.proofs.Reading.{line_within}
-use Rattle.cases_floats.proofs.answer_all.Goals.{After-line_end-end}
 use Rattle.cases_floats.proofs.answer_all.Goals as goal
 
 pub loop-at-smaller : goal.loop-at-smaller
