@@ -5,7 +5,7 @@ use std::{env, fs};
 
 fn main() {
     println!("cargo::rerun-if-env-changed=MOORSPINDLE_ARCHIVE");
-    let default = || "../target/staticlib/libmoorspindle.a".into();
+    let default = || "../crates/moorspindle/out/libmoorspindle.a".into();
     let named = env::var_os("MOORSPINDLE_ARCHIVE").unwrap_or_else(default);
     let archive = PathBuf::from(named);
     let Ok(archive) = fs::canonicalize(&archive) else {

@@ -32,7 +32,10 @@ pub fn find_matches(
     }
 }
 
-// The index of the catalogue quads with these hashes, two words for each.
+// The index of the catalogue quads with these hashes, two words for each. Not inlined: where the tests of null
+// pointers of the C face stand in one function with its long list, LLVM 22 probes the stack between them and
+// their use, by the register that has their outcome.
+#[inline(never)]
 pub fn build_hash_index(hashes: &[f64], table: &mut [u64]) -> u32
     ensures { IndexBuilt hashes.now table.old result table.new }
 {
