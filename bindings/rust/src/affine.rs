@@ -1,6 +1,8 @@
 //! The affine of three rows, and the score of pairs by it.
 
-use crate::{Result, Rows, done, ffi};
+use crate::call::call;
+use crate::ffi::*;
+use crate::{Result, Rows, done};
 
 /// From the pixels to the plane: xi = a11 x + a12 y + tx, eta = a21 x + a22 y + ty.
 #[derive(Clone, Copy, Debug, PartialEq)]
@@ -26,49 +28,18 @@ impl Affine {
 /// The affine that three rows determine.
 pub fn fit_affine_3pt(rows: Rows, [a, b, c]: [u8; 3]) -> Result<Affine> {
     let Rows { px, py, xi, eta } = rows;
-    let mut numbers = [0.0; 6];
-    // SAFETY: each pointer goes with its length, and the output overlaps nothing else
-    done(unsafe {
-        ffi::moorspindle_fit_affine_3pt(
-            px.as_ptr(),
-            px.len(),
-            py.as_ptr(),
-            py.len(),
-            xi.as_ptr(),
-            xi.len(),
-            eta.as_ptr(),
-            eta.len(),
-            a,
-            b,
-            c,
-            numbers.as_mut_ptr(),
-            6,
-        )
-    })?;
-    Ok(Affine::of(numbers))
+    let mut affine = [0.0; 6];
+    done(call!(moorspindle_fit_affine_3pt(in px, in py, in xi, in eta, a, b, c, out affine)))?;
+    Ok(Affine::of(affine))
 }
 
 /// How many rows are within a number of pixels.
 pub fn count_affine_inliers(rows: Rows, affine: Affine, threshold: f64) -> Result<u64> {
     let Rows { px, py, xi, eta } = rows;
-    let (numbers, mut inliers) = (affine.numbers(), 0);
-    // SAFETY: as above
-    done(unsafe {
-        ffi::moorspindle_count_affine_inliers(
-            px.as_ptr(),
-            px.len(),
-            py.as_ptr(),
-            py.len(),
-            xi.as_ptr(),
-            xi.len(),
-            eta.as_ptr(),
-            eta.len(),
-            numbers.as_ptr(),
-            6,
-            threshold,
-            &mut inliers,
-        )
-    })?;
+    let mut inliers = 0;
+    done(call!(moorspindle_count_affine_inliers(
+        in px, in py, in xi, in eta, in affine.numbers(), threshold, num inliers
+    )))?;
     Ok(inliers)
 }
 
@@ -76,19 +47,6 @@ pub fn count_affine_inliers(rows: Rows, affine: Affine, threshold: f64) -> Resul
 pub fn verify_pairs(rows: Rows) -> Result<u64> {
     let Rows { px, py, xi, eta } = rows;
     let mut score = 0;
-    // SAFETY: as above
-    done(unsafe {
-        ffi::moorspindle_verify_pairs(
-            px.as_ptr(),
-            px.len(),
-            py.as_ptr(),
-            py.len(),
-            xi.as_ptr(),
-            xi.len(),
-            eta.as_ptr(),
-            eta.len(),
-            &mut score,
-        )
-    })?;
+    done(call!(moorspindle_verify_pairs(in px, in py, in xi, in eta, num score)))?;
     Ok(score)
 }

@@ -9,6 +9,7 @@
 //! [`record`]; [`floats`] has the arithmetic that all of them stand on.
 
 pub mod affine;
+mod call;
 mod ffi;
 pub mod floats;
 pub mod matching;

@@ -1,7 +1,9 @@
 //! Matches of quads, by an index too, and the pairs that their votes make.
 
+use crate::call::call;
+use crate::ffi::*;
 use crate::quad::Quads;
-use crate::{Refusal, Result, done, ffi};
+use crate::{Refusal, Result, done};
 
 /// The matches for which there is room at first.
 const FIRST_ROOM: usize = 16_384;
@@ -42,21 +44,11 @@ impl FromIterator<Match> for Matches {
 
 /// Every pair of quads of one shape: by image quad, then key number, then catalogue quad.
 pub fn find_matches(image: &Quads, catalogue: &Quads) -> Result<Matches> {
-    // SAFETY: each pointer goes with its length, and the outputs overlap nothing else
-    with_room(|matches, found| unsafe {
-        ffi::moorspindle_find_matches(
-            image.places.as_ptr(),
-            image.places.len(),
-            image.hashes.as_ptr(),
-            image.hashes.len(),
-            catalogue.places.as_ptr(),
-            catalogue.places.len(),
-            catalogue.hashes.as_ptr(),
-            catalogue.hashes.len(),
-            matches.as_mut_ptr(),
-            matches.len(),
-            found,
-        )
+    with_room(|matches, found| {
+        call!(moorspindle_find_matches(
+            in image.places, in image.hashes, in catalogue.places, in catalogue.hashes,
+            out *matches, num *found
+        ))
     })
 }
 
@@ -80,13 +72,8 @@ pub struct Index(Vec<u64>);
 impl Index {
     /// Refused with [`Refusal::Count`] above 12,000 quads.
     pub fn build(catalogue: &Quads) -> Result<Index> {
-        let hashes = &catalogue.hashes;
         let mut table = vec![0; 2 * catalogue.len()];
-        // SAFETY: as above
-        done(unsafe {
-            let (out, room) = (table.as_mut_ptr(), table.len());
-            ffi::moorspindle_build_hash_index(hashes.as_ptr(), hashes.len(), out, room)
-        })?;
+        done(call!(moorspindle_build_hash_index(in catalogue.hashes, out table)))?;
         Ok(Index(table))
     }
 }
@@ -94,23 +81,11 @@ impl Index {
 /// The matches of [`find_matches`], in their order, by the catalogue list's index: in a small part of
 /// the time. The index of another list is refused with [`Refusal::Index`].
 pub fn find_matches_indexed(image: &Quads, catalogue: &Quads, index: &Index) -> Result<Matches> {
-    // SAFETY: as above
-    with_room(|matches, found| unsafe {
-        ffi::moorspindle_find_matches_indexed(
-            image.places.as_ptr(),
-            image.places.len(),
-            image.hashes.as_ptr(),
-            image.hashes.len(),
-            catalogue.places.as_ptr(),
-            catalogue.places.len(),
-            catalogue.hashes.as_ptr(),
-            catalogue.hashes.len(),
-            index.0.as_ptr(),
-            index.0.len(),
-            matches.as_mut_ptr(),
-            matches.len(),
-            found,
-        )
+    with_room(|matches, found| {
+        call!(moorspindle_find_matches_indexed(
+            in image.places, in image.hashes, in catalogue.places, in catalogue.hashes,
+            in index.0, out *matches, num *found
+        ))
     })
 }
 
@@ -174,42 +149,11 @@ pub fn extract_pairs(
     let room = detections.x.len();
     let [mut px, mut py, mut ra, mut dec, mut snr] = [(); 5].map(|()| vec![0.0; room]);
     let (mut votes, mut pairs) = (vec![0; room], 0);
-    // SAFETY: as above
-    done(unsafe {
-        ffi::moorspindle_extract_pairs(
-            matches.0.as_ptr(),
-            matches.0.len(),
-            detections.x.as_ptr(),
-            detections.x.len(),
-            detections.y.as_ptr(),
-            detections.y.len(),
-            detections.snr.as_ptr(),
-            detections.snr.len(),
-            ids.image.as_ptr(),
-            ids.image.len(),
-            ids.catalogue.as_ptr(),
-            ids.catalogue.len(),
-            results.ids.as_ptr(),
-            results.ids.len(),
-            results.ra.as_ptr(),
-            results.ra.len(),
-            results.dec.as_ptr(),
-            results.dec.len(),
-            px.as_mut_ptr(),
-            room,
-            py.as_mut_ptr(),
-            room,
-            ra.as_mut_ptr(),
-            room,
-            dec.as_mut_ptr(),
-            room,
-            votes.as_mut_ptr(),
-            room,
-            snr.as_mut_ptr(),
-            room,
-            &mut pairs,
-        )
-    })?;
+    done(call!(moorspindle_extract_pairs(
+        in matches.0, in detections.x, in detections.y, in detections.snr,
+        in ids.image, in ids.catalogue, in results.ids, in results.ra, in results.dec,
+        out px, out py, out ra, out dec, out votes, out snr, num pairs
+    )))?;
     let pair = |i: usize| Pair {
         px: px[i],
         py: py[i],

@@ -1,6 +1,8 @@
 //! Quads: sets of four stars, hashed by their shape.
 
-use crate::{Result, done, ffi};
+use crate::call::call;
+use crate::ffi::*;
+use crate::{Result, done};
 
 /// The most quads that a list of stars gives.
 const MOST_QUADS: usize = 12_000;
@@ -59,36 +61,23 @@ impl FromIterator<Quad> for Quads {
 /// The two stars of four that are furthest apart, in order, then the other two.
 pub fn find_spine(xs: &[f64], ys: &[f64], [p, q, r, s]: [u8; 4]) -> Result<[u8; 4]> {
     let mut spine = [0; 4];
-    let (nx, ny) = (xs.len(), ys.len());
-    // SAFETY: each pointer goes with its length, and the output overlaps nothing else
-    done(unsafe {
-        let (xs, ys, out) = (xs.as_ptr(), ys.as_ptr(), spine.as_mut_ptr());
-        ffi::moorspindle_find_spine(xs, nx, ys, ny, p, q, r, s, out, 4)
-    })?;
+    done(call!(moorspindle_find_spine(in xs, in ys, p, q, r, s, out spine)))?;
     Ok(spine)
 }
 
 /// The places of two stars, by smaller x, then y, then place.
 pub fn orient_spine(a: Star, b: Star) -> Result<[u8; 2]> {
     let mut pair = [0; 2];
-    // SAFETY: as above
-    done(unsafe {
-        let out = pair.as_mut_ptr();
-        ffi::moorspindle_orient_spine(a.x, a.y, a.place, b.x, b.y, b.place, out, 2)
-    })?;
+    done(call!(moorspindle_orient_spine(a.x, a.y, a.place, b.x, b.y, b.place, out pair)))?;
     Ok(pair)
 }
 
 /// The hash of four stars whose first two are the spine; the other two stand by their hash.
 pub fn normalize_quad_ordered(xs: &[f64], ys: &[f64], [a, b, c, d]: [u8; 4]) -> Result<Quad> {
     let mut quad = Quad { places: [0; 4], hash: [0.0; 4] };
-    let (nx, ny) = (xs.len(), ys.len());
-    // SAFETY: as above
-    done(unsafe {
-        let (hash, places) = (quad.hash.as_mut_ptr(), quad.places.as_mut_ptr());
-        let (xs, ys) = (xs.as_ptr(), ys.as_ptr());
-        ffi::moorspindle_normalize_quad_ordered(xs, nx, ys, ny, a, b, c, d, hash, 4, places, 4)
-    })?;
+    done(call!(moorspindle_normalize_quad_ordered(
+        in xs, in ys, a, b, c, d, out quad.hash, out quad.places
+    )))?;
     Ok(quad)
 }
 
@@ -102,8 +91,7 @@ pub struct Combinations {
 /// The sets of four places below n.
 pub fn combinations_4(n: u32) -> Result<Combinations> {
     let mut state = [0; 5];
-    // SAFETY: as above
-    done(unsafe { ffi::moorspindle_combinations_4(n, state.as_mut_ptr(), 5) })?;
+    done(call!(moorspindle_combinations_4(n, out state)))?;
     Ok(Combinations { n, state })
 }
 
@@ -112,10 +100,9 @@ impl Iterator for Combinations {
 
     fn next(&mut self) -> Option<[u8; 4]> {
         let (mut places, mut given) = ([0; 4], 0);
-        let (state, out) = (self.state.as_mut_ptr(), places.as_mut_ptr());
-        // SAFETY: as above
-        let number =
-            unsafe { ffi::moorspindle_combinations_4_next(self.n, state, 5, out, 4, &mut given) };
+        let number = call!(moorspindle_combinations_4_next(
+            self.n, out self.state, out places, num given
+        ));
         debug_assert_eq!(number, 0, "a state that the steps made is taken");
         (given == 1).then_some(places)
     }
@@ -124,26 +111,10 @@ impl Iterator for Combinations {
 /// The quads of each star with three of its k nearest, each set of four once.
 pub fn neighbor_quads(xs: &[f64], ys: &[f64], k: u32, min_spine_sq: f64) -> Result<Quads> {
     let mut list = Quads { places: vec![0; 4 * MOST_QUADS], hashes: vec![0.0; 4 * MOST_QUADS] };
-    let (nx, ny, room) = (xs.len(), ys.len(), 4 * MOST_QUADS);
     let mut found = 0;
-    // SAFETY: as above
-    done(unsafe {
-        let (places, hashes) = (list.places.as_mut_ptr(), list.hashes.as_mut_ptr());
-        let (xs, ys) = (xs.as_ptr(), ys.as_ptr());
-        ffi::moorspindle_neighbor_quads(
-            xs,
-            nx,
-            ys,
-            ny,
-            k,
-            min_spine_sq,
-            places,
-            room,
-            hashes,
-            room,
-            &mut found,
-        )
-    })?;
+    done(call!(moorspindle_neighbor_quads(
+        in xs, in ys, k, min_spine_sq, out list.places, out list.hashes, num found
+    )))?;
     list.places.truncate(4 * found as usize);
     list.hashes.truncate(4 * found as usize);
     Ok(list)
@@ -151,16 +122,13 @@ pub fn neighbor_quads(xs: &[f64], ys: &[f64], k: u32, min_spine_sq: f64) -> Resu
 
 /// The key of a hash: four lanes of 16 bits.
 pub fn discrete_hash_key([h0, h1, h2, h3]: [f64; 4]) -> u64 {
-    ffi::moorspindle_discrete_hash_key(h0, h1, h2, h3)
+    moorspindle_discrete_hash_key(h0, h1, h2, h3)
 }
 
 /// The 81 keys whose lanes are at most one away; number 40 is the key itself.
 pub fn discrete_hash_key_neighbors([h0, h1, h2, h3]: [f64; 4]) -> [u64; 81] {
     let mut keys = [0; 81];
-    // SAFETY: as above
-    let number = unsafe {
-        ffi::moorspindle_discrete_hash_key_neighbors(h0, h1, h2, h3, keys.as_mut_ptr(), 81)
-    };
+    let number = call!(moorspindle_discrete_hash_key_neighbors(h0, h1, h2, h3, out keys));
     debug_assert_eq!(number, 0, "81 places are enough");
     keys
 }

@@ -3,9 +3,11 @@
 use std::error::Error;
 use std::fmt::{self, Display};
 
+use crate::call::call;
+use crate::ffi::*;
 use crate::plate::Wcs;
 use crate::sip::{Sip, terms};
-use crate::{Result, done, ffi};
+use crate::{Result, done};
 
 /// No record is longer.
 const MOST_BYTES: usize = 1065;
@@ -48,26 +50,10 @@ impl Solution {
         let text = text.as_ref();
         let (mut format, mut rows_used, mut order, mut line) = (0, 0, 0, 0);
         let (mut a, mut b) = (vec![0.0; MOST_TERMS], vec![0.0; MOST_TERMS]);
-        let (mut numbers, mut sums) = ([0.0; 6], [0.0; 3]);
-        // SAFETY: each pointer goes with its length, and the outputs overlap nothing else
-        let number = unsafe {
-            ffi::moorspindle_read_record(
-                text.as_ptr(),
-                text.len(),
-                &mut format,
-                &mut rows_used,
-                numbers.as_mut_ptr(),
-                6,
-                &mut order,
-                a.as_mut_ptr(),
-                a.len(),
-                b.as_mut_ptr(),
-                b.len(),
-                sums.as_mut_ptr(),
-                3,
-                &mut line,
-            )
-        };
+        let (mut wcs, mut sums) = ([0.0; 6], [0.0; 3]);
+        let number = call!(moorspindle_read_record(
+            in text, num format, num rows_used, out wcs, num order, out a, out b, out sums, num line
+        ));
         match number {
             0 => {}
             10 => return Err(WrongLine { line }),
@@ -78,7 +64,7 @@ impl Solution {
         b.truncate(n);
         let [linear_rms, rms, wrms] = sums;
         let sip = Sip { order, a, b, rows_used: rows_used as usize, linear_rms, rms, wrms };
-        Ok((Solution { sip, wcs: Wcs::of(numbers) }, format))
+        Ok((Solution { sip, wcs: Wcs::of(wcs) }, format))
     }
 
     /// Its record, in format 2.
@@ -97,25 +83,11 @@ impl Solution {
 /// that were solved, with their sign bits turned.
 pub fn write_record(sip: &Sip, wcs: Wcs) -> Result<String> {
     let (mut text, mut written) = (vec![0; MOST_BYTES], 0);
-    let (numbers, sums) = (wcs.numbers(), [sip.linear_rms, sip.rms, sip.wrms]);
-    // SAFETY: each pointer goes with its length, and the outputs overlap nothing else
-    done(unsafe {
-        ffi::moorspindle_write_record(
-            sip.rows_used as u64,
-            numbers.as_ptr(),
-            6,
-            sip.order,
-            sip.a.as_ptr(),
-            sip.a.len(),
-            sip.b.as_ptr(),
-            sip.b.len(),
-            sums.as_ptr(),
-            3,
-            text.as_mut_ptr(),
-            text.len(),
-            &mut written,
-        )
-    })?;
+    let sums = [sip.linear_rms, sip.rms, sip.wrms];
+    done(call!(moorspindle_write_record(
+        sip.rows_used as u64, in wcs.numbers(), sip.order, in sip.a, in sip.b, in sums,
+        out text, num written
+    )))?;
     text.truncate(written as usize);
     Ok(String::from_utf8(text).expect("a record is ASCII"))
 }
