@@ -2,7 +2,7 @@
 
 use crate::call::call;
 use crate::ffi::*;
-use crate::{Result, Rows, done};
+use crate::{Result, Rows, done, size};
 
 /// From the pixels to the plane: xi = a11 x + a12 y + tx, eta = a21 x + a22 y + ty.
 #[derive(Clone, Copy, Debug, PartialEq)]
@@ -34,19 +34,19 @@ pub fn fit_affine_3pt(rows: Rows, [a, b, c]: [u8; 3]) -> Result<Affine> {
 }
 
 /// How many rows are within a number of pixels.
-pub fn count_affine_inliers(rows: Rows, affine: Affine, threshold: f64) -> Result<u64> {
+pub fn count_affine_inliers(rows: Rows, affine: Affine, threshold: f64) -> Result<usize> {
     let Rows { px, py, xi, eta } = rows;
     let mut inliers = 0;
     done(call!(moorspindle_count_affine_inliers(
         in px, in py, in xi, in eta, in affine.numbers(), threshold, num inliers
     )))?;
-    Ok(inliers)
+    Ok(size(inliers))
 }
 
 /// The most rows, within 10 pixels, of the affines of a thousand drawn triples.
-pub fn verify_pairs(rows: Rows) -> Result<u64> {
+pub fn verify_pairs(rows: Rows) -> Result<usize> {
     let Rows { px, py, xi, eta } = rows;
     let mut score = 0;
     done(call!(moorspindle_verify_pairs(in px, in py, in xi, in eta, num score)))?;
-    Ok(score)
+    Ok(size(score))
 }

@@ -7,6 +7,10 @@
 //!
 //! The modules follow the way of a frame: [`quad`], [`matching`], [`affine`], [`plate`], [`sip`],
 //! [`record`]; [`floats`] has the arithmetic that all of them stand on.
+//!
+//! Every count is a `usize`, but for the votes, whose lists are lent as they are. One that is given and
+//! above what the C face has room for, 32 bits, is above every limit too: it is refused with
+//! [`Refusal::Count`] like any other that is too great.
 
 pub mod affine;
 mod call;
@@ -95,6 +99,17 @@ pub type Result<T> = std::result::Result<T, Refusal>;
 /// A number of the C face: 0 is done.
 fn done(number: u32) -> Result<()> {
     if number == 0 { Ok(()) } else { Err(Refusal::of(number)) }
+}
+
+/// A count as the C face takes it. One above 32 bits becomes the greatest of them: no call takes as
+/// many as that either, and each refuses it with [`Refusal::Count`].
+fn count(n: usize) -> u32 {
+    u32::try_from(n).unwrap_or(u32::MAX)
+}
+
+/// A count that the C face answers. It is of what lies in lent memory, or of at most 100 rows: it fits.
+fn size(n: u64) -> usize {
+    n as usize
 }
 
 /// Rows: pixels, and the points of the tangent plane that belong to them. The four lists are of one

@@ -3,7 +3,7 @@
 use crate::call::call;
 use crate::ffi::*;
 use crate::quad::Quads;
-use crate::{Refusal, Result, done};
+use crate::{Refusal, Result, done, size};
 
 /// The matches for which there is room at first.
 const FIRST_ROOM: usize = 16_384;
@@ -97,7 +97,7 @@ fn with_room(find: impl Fn(&mut [u8], &mut u64) -> u32) -> Result<Matches> {
         match done(find(&mut matches, &mut found)) {
             Err(Refusal::Room) => room *= 8,
             answer => {
-                matches.truncate(8 * found as usize);
+                matches.truncate(8 * size(found));
                 return answer.map(|()| Matches(matches));
             }
         }
@@ -162,5 +162,5 @@ pub fn extract_pairs(
         votes: votes[i],
         snr: snr[i],
     };
-    Ok((0..pairs as usize).map(pair).collect())
+    Ok((0..size(pairs)).map(pair).collect())
 }

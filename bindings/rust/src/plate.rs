@@ -2,7 +2,7 @@
 
 use crate::call::call;
 use crate::ffi::*;
-use crate::{Refusal, Result, Rows, done};
+use crate::{Refusal, Result, Rows, count, done, size};
 
 /// From a pixel to the plane: xi = cd1_1 x + cd1_2 y + xi0, eta = cd2_1 x + cd2_2 y + eta0.
 #[derive(Clone, Copy, Debug, PartialEq)]
@@ -91,11 +91,12 @@ pub enum Run {
 }
 
 /// Of so many trials, each of which fits three rows, the plate with the most rows within the limit.
-pub fn ransac_fit(rows: Rows, votes: &[u32], limit: f64, trials: u32) -> Result<Run> {
+/// More than 1,000 trials are refused with [`Refusal::Count`].
+pub fn ransac_fit(rows: Rows, votes: &[u32], limit: f64, trials: usize) -> Result<Run> {
     let Rows { px, py, xi, eta } = rows;
     let (mut mask, mut tested, mut on) = (vec![0; px.len()], 0, 0);
     done(call!(moorspindle_ransac_fit(
-        in px, in py, in xi, in eta, in votes, limit, trials,
+        in px, in py, in xi, in eta, in votes, limit, count(trials),
         out mask, num tested, num on
     )))?;
     let mask = mask.into_iter().map(|byte| byte == 1).collect();
@@ -151,7 +152,7 @@ pub fn compute_residuals(rows: Rows, wcs: Wcs) -> Result<Vec<Residual>> {
         in px, in py, in xi, in eta, in wcs.numbers(), out x, out y, out all, num residuals
     )))?;
     let residual = |i: usize| Residual { x: x[i], y: y[i], px: all[i] };
-    Ok((0..residuals as usize).map(residual).collect())
+    Ok((0..size(residuals)).map(residual).collect())
 }
 
 /// The root mean square.
@@ -168,10 +169,10 @@ pub fn weighted_rms_error(errors: &[f64], weights: &[f64]) -> Result<f64> {
     Ok(rms)
 }
 
-/// The unknowns of as many equations as b has numbers; a is given row by row.
+/// The unknowns of as many equations as b has numbers; a is given row by row. More than 54 are
+/// refused with [`Refusal::Count`].
 pub fn solve_normal_equations(a: &[f64], b: &[f64]) -> Result<Vec<f64>> {
-    let mut x = vec![0.0; b.len()];
-    let n = u32::try_from(b.len()).map_err(|_| Refusal::Count)?;
+    let (n, mut x) = (count(b.len()), vec![0.0; b.len()]);
     done(call!(moorspindle_solve_normal_equations(in a, in b, n, out x)))?;
     Ok(x)
 }

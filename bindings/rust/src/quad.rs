@@ -2,7 +2,7 @@
 
 use crate::call::call;
 use crate::ffi::*;
-use crate::{Result, done};
+use crate::{Result, count, done, size};
 
 /// The most quads that a list of stars gives.
 const MOST_QUADS: usize = 12_000;
@@ -88,9 +88,10 @@ pub struct Combinations {
     state: [u8; 5],
 }
 
-/// The sets of four places below n.
-pub fn combinations_4(n: u32) -> Result<Combinations> {
-    let mut state = [0; 5];
+/// The sets of four places below n, which is at most 100, or else refused with
+/// [`Refusal::Count`](crate::Refusal::Count).
+pub fn combinations_4(n: usize) -> Result<Combinations> {
+    let (n, mut state) = (count(n), [0; 5]);
     done(call!(moorspindle_combinations_4(n, out state)))?;
     Ok(Combinations { n, state })
 }
@@ -108,15 +109,16 @@ impl Iterator for Combinations {
     }
 }
 
-/// The quads of each star with three of its k nearest, each set of four once.
-pub fn neighbor_quads(xs: &[f64], ys: &[f64], k: u32, min_spine_sq: f64) -> Result<Quads> {
+/// The quads of each star with three of its k nearest, each set of four once. A k above 10 is refused
+/// with [`Refusal::Count`](crate::Refusal::Count).
+pub fn neighbor_quads(xs: &[f64], ys: &[f64], k: usize, min_spine_sq: f64) -> Result<Quads> {
     let mut list = Quads { places: vec![0; 4 * MOST_QUADS], hashes: vec![0.0; 4 * MOST_QUADS] };
     let mut found = 0;
     done(call!(moorspindle_neighbor_quads(
-        in xs, in ys, k, min_spine_sq, out list.places, out list.hashes, num found
+        in xs, in ys, count(k), min_spine_sq, out list.places, out list.hashes, num found
     )))?;
-    list.places.truncate(4 * found as usize);
-    list.hashes.truncate(4 * found as usize);
+    list.places.truncate(4 * size(found));
+    list.hashes.truncate(4 * size(found));
     Ok(list)
 }
 

@@ -7,7 +7,7 @@ use crate::call::call;
 use crate::ffi::*;
 use crate::plate::Wcs;
 use crate::sip::{Sip, terms};
-use crate::{Result, done};
+use crate::{Result, done, size};
 
 /// No record is longer.
 const MOST_BYTES: usize = 1065;
@@ -27,7 +27,7 @@ pub struct Solution {
 pub struct WrongLine {
     /// The number, from 1, of the first line that cannot stand there: some record begins with the
     /// lines before it, and none with the lines up to it.
-    pub line: u64,
+    pub line: usize,
 }
 
 impl Display for WrongLine {
@@ -56,14 +56,14 @@ impl Solution {
         ));
         match number {
             0 => {}
-            10 => return Err(WrongLine { line }),
+            10 => return Err(WrongLine { line: size(line) }),
             other => unreachable!("there is room, and no record is refused by {other}"),
         }
         let n = terms(order).count();
         a.truncate(n);
         b.truncate(n);
         let [linear_rms, rms, wrms] = sums;
-        let sip = Sip { order, a, b, rows_used: rows_used as usize, linear_rms, rms, wrms };
+        let sip = Sip { order, a, b, rows_used: size(rows_used), linear_rms, rms, wrms };
         Ok((Solution { sip, wcs: Wcs::of(wcs) }, format))
     }
 
@@ -88,6 +88,6 @@ pub fn write_record(sip: &Sip, wcs: Wcs) -> Result<String> {
         sip.rows_used as u64, in wcs.numbers(), sip.order, in sip.a, in sip.b, in sums,
         out text, num written
     )))?;
-    text.truncate(written as usize);
+    text.truncate(size(written));
     Ok(String::from_utf8(text).expect("a record is ASCII"))
 }

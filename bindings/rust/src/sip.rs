@@ -3,7 +3,7 @@
 use crate::call::call;
 use crate::ffi::*;
 use crate::plate::Wcs;
-use crate::{Result, Rows, done};
+use crate::{Result, Rows, done, size};
 
 /// A fit of pixel minus ideal. The coefficients stand in the order of [`terms`], a dropped one as
 /// 0.0; what they mean is said in `docs/ARCHITECTURE.md`, "The SIP fit".
@@ -35,5 +35,5 @@ pub fn fit_sip(rows: Rows, snr: &[f64], wcs: Wcs, order: u32) -> Result<Sip> {
         out a, out b, num rows_used, out sums
     )))?;
     let [linear_rms, rms, wrms] = sums;
-    Ok(Sip { order, a, b, rows_used: rows_used as usize, linear_rms, rms, wrms })
+    Ok(Sip { order, a, b, rows_used: size(rows_used), linear_rms, rms, wrms })
 }

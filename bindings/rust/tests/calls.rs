@@ -105,6 +105,18 @@ fn matches_by_an_index() {
     assert_eq!(Index::build(&long), Err(Refusal::Count));
 }
 
+/// Their lowest 32 bits alone would be taken.
+#[cfg(target_pointer_width = "64")]
+#[test]
+fn counts_above_32_bits() {
+    const MANY: usize = (1 << 32) + 3;
+    assert_eq!(quad::combinations_4(MANY).unwrap_err(), Refusal::Count);
+    assert_eq!(quad::neighbor_quads(&XS, &YS, MANY, 0.0), Err(Refusal::Count));
+    assert_eq!(plate::ransac_fit(ROWS, &[3; 5], 1.0, MANY), Err(Refusal::Count));
+    let sip = Sip { rows_used: MANY, ..bent() };
+    assert_eq!(write_record(&sip, WCS), Err(Refusal::Count));
+}
+
 #[test]
 fn affine_of_three_rows() {
     let unit = Affine { a11: 1.0, a12: 0.0, tx: 0.0, a21: 0.0, a22: 1.0, ty: 0.0 };
