@@ -25,8 +25,9 @@ pub mod sip;
 use std::error::Error;
 use std::fmt::{self, Display};
 
-/// Why a call has no answer.
+/// Why a call has no answer. More may come: a `match` on it has an arm for the others.
 #[derive(Clone, Copy, Debug, PartialEq, Eq, Hash)]
+#[non_exhaustive]
 #[repr(u32)]
 pub enum Refusal {
     /// A count is outside its limit.
