@@ -1,5 +1,7 @@
 //! Matches of quads, by an index too, and the pairs that their votes make.
 
+use std::slice::ChunksExact;
+
 use crate::call::call;
 use crate::ffi::*;
 use crate::quad::Quads;
@@ -28,11 +30,8 @@ impl Matches {
         self.0.is_empty()
     }
 
-    pub fn iter(&self) -> impl ExactSizeIterator<Item = Match> + '_ {
-        let four = |places: &[u8]| places.try_into().expect("four places");
-        self.0
-            .chunks_exact(8)
-            .map(move |m| Match { image: four(&m[..4]), catalogue: four(&m[4..]) })
+    pub fn iter(&self) -> Iter<'_> {
+        Iter(self.0.chunks_exact(8))
     }
 }
 
@@ -41,6 +40,35 @@ impl FromIterator<Match> for Matches {
         Matches(matches.into_iter().flat_map(|m| m.image.into_iter().chain(m.catalogue)).collect())
     }
 }
+
+impl<'a> IntoIterator for &'a Matches {
+    type Item = Match;
+    type IntoIter = Iter<'a>;
+
+    fn into_iter(self) -> Iter<'a> {
+        self.iter()
+    }
+}
+
+/// The matches of a list, in its order.
+#[derive(Clone, Debug)]
+pub struct Iter<'a>(ChunksExact<'a, u8>);
+
+impl Iterator for Iter<'_> {
+    type Item = Match;
+
+    fn next(&mut self) -> Option<Match> {
+        let (image, catalogue) = self.0.next()?.split_at(4);
+        let four = |places: &[u8]| places.try_into().expect("four places");
+        Some(Match { image: four(image), catalogue: four(catalogue) })
+    }
+
+    fn size_hint(&self) -> (usize, Option<usize>) {
+        self.0.size_hint()
+    }
+}
+
+impl ExactSizeIterator for Iter<'_> {}
 
 /// Every pair of quads of one shape: by image quad, then key number, then catalogue quad.
 pub fn find_matches(image: &Quads, catalogue: &Quads) -> Result<Matches> {

@@ -1,5 +1,7 @@
 //! Quads: sets of four stars, hashed by their shape.
 
+use std::slice::ChunksExact;
+
 use crate::call::call;
 use crate::ffi::*;
 use crate::{Result, count, done, size};
@@ -38,12 +40,8 @@ impl Quads {
         self.places.is_empty()
     }
 
-    pub fn iter(&self) -> impl ExactSizeIterator<Item = Quad> + '_ {
-        let fours = self.places.chunks_exact(4).zip(self.hashes.chunks_exact(4));
-        fours.map(|(places, hash)| Quad {
-            places: places.try_into().expect("four places"),
-            hash: hash.try_into().expect("four numbers"),
-        })
+    pub fn iter(&self) -> Iter<'_> {
+        Iter { places: self.places.chunks_exact(4), hashes: self.hashes.chunks_exact(4) }
     }
 }
 
@@ -57,6 +55,40 @@ impl FromIterator<Quad> for Quads {
         list
     }
 }
+
+impl<'a> IntoIterator for &'a Quads {
+    type Item = Quad;
+    type IntoIter = Iter<'a>;
+
+    fn into_iter(self) -> Iter<'a> {
+        self.iter()
+    }
+}
+
+/// The quads of a list, in its order.
+#[derive(Clone, Debug)]
+pub struct Iter<'a> {
+    places: ChunksExact<'a, u8>,
+    hashes: ChunksExact<'a, f64>,
+}
+
+impl Iterator for Iter<'_> {
+    type Item = Quad;
+
+    fn next(&mut self) -> Option<Quad> {
+        let (places, hash) = (self.places.next()?, self.hashes.next()?);
+        Some(Quad {
+            places: places.try_into().expect("four places"),
+            hash: hash.try_into().expect("four numbers"),
+        })
+    }
+
+    fn size_hint(&self) -> (usize, Option<usize>) {
+        self.places.size_hint()
+    }
+}
+
+impl ExactSizeIterator for Iter<'_> {}
 
 /// The two stars of four that are furthest apart, in order, then the other two.
 pub fn find_spine(xs: &[f64], ys: &[f64], [p, q, r, s]: [u8; 4]) -> Result<[u8; 4]> {

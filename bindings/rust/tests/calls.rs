@@ -105,6 +105,26 @@ fn matches_by_an_index() {
     assert_eq!(Index::build(&long), Err(Refusal::Count));
 }
 
+#[test]
+fn lists_by_reference() {
+    let square = quad::neighbor_quads(&XS, &YS, 3, 0.0).unwrap();
+    let quads: Quads = square.iter().chain(&square).chain(&square).collect();
+    let mut left = quads.iter();
+    for (passed, quad) in (&quads).into_iter().enumerate() {
+        assert_eq!(left.len(), 3 - passed);
+        assert_eq!((left.next(), square.iter().next()), (Some(quad), Some(quad)));
+    }
+    assert_eq!((left.len(), left.next()), (0, None));
+
+    let matches = find_matches(&quads, &square).unwrap();
+    let mut left = matches.iter();
+    for (passed, found) in (&matches).into_iter().enumerate() {
+        assert_eq!(left.len(), 3 - passed);
+        assert_eq!(left.next(), Some(found));
+    }
+    assert_eq!((left.len(), left.next()), (0, None));
+}
+
 /// Their lowest 32 bits alone would be taken.
 #[cfg(target_pointer_width = "64")]
 #[test]
