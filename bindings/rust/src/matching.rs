@@ -18,6 +18,17 @@ pub struct Match {
 }
 
 /// A list of matches, eight star places to each.
+///
+/// ```
+/// use moorspindle::matching::{Match, Matches};
+///
+/// let found = Match { image: [0, 3, 1, 2], catalogue: [7, 4, 6, 5] };
+/// let matches: Matches = [found; 2].into_iter().collect();
+/// assert_eq!((matches.len(), matches.iter().len()), (2, 2));
+/// for each in &matches {
+///     assert_eq!(each, found);
+/// }
+/// ```
 #[derive(Clone, Debug, Default, PartialEq, Eq)]
 pub struct Matches(Vec<u8>);
 
@@ -71,6 +82,17 @@ impl Iterator for Iter<'_> {
 impl ExactSizeIterator for Iter<'_> {}
 
 /// Every pair of quads of one shape: by image quad, then key number, then catalogue quad.
+///
+/// ```
+/// use moorspindle::matching::find_matches;
+/// use moorspindle::quad::neighbor_quads;
+///
+/// let small = neighbor_quads(&[0.0, 1.0, 0.0, 1.0], &[0.0, 0.0, 1.0, 1.0], 3, 0.0)?;
+/// let large = neighbor_quads(&[5.0, 9.0, 5.0, 9.0], &[5.0, 5.0, 9.0, 9.0], 3, 0.0)?;
+/// let matches = find_matches(&small, &large)?;
+/// assert_eq!(matches.iter().next().unwrap().catalogue, [0, 3, 1, 2]);
+/// # Ok::<(), moorspindle::Refusal>(())
+/// ```
 pub fn find_matches(image: &Quads, catalogue: &Quads) -> Result<Matches> {
     with_room(|matches, found| {
         call!(moorspindle_find_matches(
@@ -108,6 +130,19 @@ impl Index {
 
 /// The matches of [`find_matches`], in their order, by the catalogue list's index: in a small part of
 /// the time. The index of another list is refused with [`Refusal::Index`].
+///
+/// ```
+/// use moorspindle::Refusal;
+/// use moorspindle::matching::{Index, find_matches_indexed};
+/// use moorspindle::quad::{Quads, neighbor_quads};
+///
+/// let square = neighbor_quads(&[0.0, 1.0, 0.0, 1.0], &[0.0, 0.0, 1.0, 1.0], 3, 0.0)?;
+/// let index = Index::build(&square)?;
+/// assert_eq!(find_matches_indexed(&square, &square, &index)?.len(), 1);
+/// let twice: Quads = square.iter().chain(&square).collect();
+/// assert_eq!(find_matches_indexed(&square, &twice, &index), Err(Refusal::Index));
+/// # Ok::<(), Refusal>(())
+/// ```
 pub fn find_matches_indexed(image: &Quads, catalogue: &Quads, index: &Index) -> Result<Matches> {
     with_room(|matches, found| {
         call!(moorspindle_find_matches_indexed(
@@ -168,6 +203,22 @@ pub struct Pair {
 }
 
 /// The pairs that two votes or more make: by votes falling, then by detection.
+///
+/// ```
+/// use moorspindle::matching::{Detections, Ids, Match, Matches, Results, extract_pairs};
+///
+/// let found = Match { image: [0, 1, 2, 3], catalogue: [0, 1, 2, 3] };
+/// let matches: Matches = [found; 2].into_iter().collect();
+/// let pairs = extract_pairs(
+///     &matches,
+///     Detections { x: &[1.0, 2.0, 3.0, 4.0], y: &[5.0; 4], snr: &[20.0; 4] },
+///     Ids { image: &[0, 1, 2, 3], catalogue: &[70, 71, 72, 73] },
+///     Results { ids: &[71, 73], ra: &[10.0, 11.0], dec: &[-3.0, -4.0] },
+/// )?;
+/// assert_eq!(pairs.len(), 2);
+/// assert_eq!((pairs[0].px, pairs[0].ra, pairs[0].votes), (2.0, 10.0, 2));
+/// # Ok::<(), moorspindle::Refusal>(())
+/// ```
 pub fn extract_pairs(
     matches: &Matches,
     detections: Detections,

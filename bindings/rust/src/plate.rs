@@ -52,6 +52,16 @@ fn bytes(mask: &[bool]) -> Vec<u8> {
 }
 
 /// The plate that fits the rows that are on.
+///
+/// ```
+/// use moorspindle::{Refusal, Rows, plate};
+///
+/// let (px, py) = ([0.0, 9.0, 0.0, 9.0], [0.0, 0.0, 9.0, 9.0]);
+/// let rows = Rows { px: &px, py: &py, xi: &[1.0, 10.0, 1.0, 77.0], eta: &py };
+/// assert_eq!(plate::fit_cd_matrix_6(rows, &[true, true, true, false])?.xi0, 1.0);
+/// assert_eq!(plate::fit_cd_matrix_6(rows, &[false; 4]), Err(Refusal::Degenerate));
+/// # Ok::<(), Refusal>(())
+/// ```
 pub fn fit_cd_matrix_6(rows: Rows, mask: &[bool]) -> Result<Cd> {
     let Rows { px, py, xi, eta } = rows;
     let mut cd = [0.0; 6];
@@ -62,6 +72,15 @@ pub fn fit_cd_matrix_6(rows: Rows, mask: &[bool]) -> Result<Cd> {
 }
 
 /// The same with a weight for each row.
+///
+/// ```
+/// use moorspindle::{Rows, plate};
+///
+/// let (px, py) = ([0.0, 9.0, 0.0, 9.0], [0.0, 0.0, 9.0, 9.0]);
+/// let rows = Rows { px: &px, py: &py, xi: &[1.0, 10.0, 1.0, 77.0], eta: &py };
+/// assert_eq!(plate::fit_cd_weighted(rows, &[true; 4], &[4.0, 4.0, 4.0, 0.0])?.xi0, 1.0);
+/// # Ok::<(), moorspindle::Refusal>(())
+/// ```
 pub fn fit_cd_weighted(rows: Rows, mask: &[bool], weights: &[f64]) -> Result<Cd> {
     let Rows { px, py, xi, eta } = rows;
     let mut cd = [0.0; 6];
@@ -72,6 +91,16 @@ pub fn fit_cd_weighted(rows: Rows, mask: &[bool], weights: &[f64]) -> Result<Cd>
 }
 
 /// The error of each row in pixels; 0.0 where it is off.
+///
+/// ```
+/// use moorspindle::Rows;
+/// use moorspindle::plate::{Cd, compute_pixel_errors};
+///
+/// let unit = Cd { cd1_1: 1.0, cd1_2: 0.0, xi0: 0.0, cd2_1: 0.0, cd2_2: 1.0, eta0: 0.0 };
+/// let rows = Rows { px: &[0.0, 5.0], py: &[0.0, 5.0], xi: &[3.0, 9.0], eta: &[4.0, 9.0] };
+/// assert_eq!(compute_pixel_errors(rows, &[true, false], unit)?, [5.0, 0.0]);
+/// # Ok::<(), moorspindle::Refusal>(())
+/// ```
 pub fn compute_pixel_errors(rows: Rows, mask: &[bool], cd: Cd) -> Result<Vec<f64>> {
     let Rows { px, py, xi, eta } = rows;
     let mut errors = vec![0.0; px.len()];
@@ -92,6 +121,17 @@ pub enum Run {
 
 /// Of so many trials, each of which fits three rows, the plate with the most rows within the limit.
 /// More than 1,000 trials are refused with [`Refusal::Count`].
+///
+/// ```
+/// use moorspindle::Rows;
+/// use moorspindle::plate::{Run, ransac_fit};
+///
+/// let (px, py) = ([0.0, 9.0, 0.0, 9.0, 5.0], [0.0, 0.0, 9.0, 9.0, 5.0]);
+/// let rows = Rows { px: &px, py: &py, xi: &[0.0, 9.0, 0.0, 9.0, 77.0], eta: &py };
+/// let on = vec![true, true, true, true, false];
+/// assert_eq!(ransac_fit(rows, &[3; 5], 1.0, 1000)?, Run::Fitted(on));
+/// # Ok::<(), moorspindle::Refusal>(())
+/// ```
 pub fn ransac_fit(rows: Rows, votes: &[u32], limit: f64, trials: usize) -> Result<Run> {
     let Rows { px, py, xi, eta } = rows;
     let (mut mask, mut tested, mut on) = (vec![0; px.len()], 0, 0);
@@ -114,6 +154,23 @@ pub enum Clip {
 
 /// Turns rows off that are further than three times the weighted rms, and fits the others anew, up
 /// to ten times.
+///
+/// ```
+/// use moorspindle::Rows;
+/// use moorspindle::plate::{Cd, Clip, sigma_clip_loop_weighted};
+///
+/// let unit = Cd { cd1_1: 1.0, cd1_2: 0.0, xi0: 0.0, cd2_1: 0.0, cd2_2: 1.0, eta0: 0.0 };
+/// let px: Vec<f64> = (0..20).map(f64::from).collect();
+/// let py: Vec<f64> = (0..20).map(|i| f64::from(i * i)).collect();
+/// let mut xi = px.clone();
+/// xi[7] += 50.0;
+/// let rows = Rows { px: &px, py: &py, xi: &xi, eta: &py };
+/// let mut mask = [true; 20];
+/// let clip = sigma_clip_loop_weighted(rows, &mut mask, unit, &[1.0; 20])?;
+/// assert!(matches!(clip, Clip::Done(_)));
+/// assert!(!mask[7] && mask.iter().filter(|&&on| on).count() == 19);
+/// # Ok::<(), moorspindle::Refusal>(())
+/// ```
 pub fn sigma_clip_loop_weighted(
     rows: Rows,
     mask: &mut [bool],
@@ -144,6 +201,16 @@ pub struct Residual {
 }
 
 /// The residual of each row; none where the plate's determinant is below 1e-30 in magnitude.
+///
+/// ```
+/// use moorspindle::Rows;
+/// use moorspindle::plate::{Residual, Wcs, compute_residuals};
+///
+/// let wcs = Wcs { crpix1: 1.0, crpix2: 0.0, cd1_1: 1.0, cd1_2: 0.0, cd2_1: 0.0, cd2_2: 1.0 };
+/// let rows = Rows { px: &[7.0], py: &[9.0], xi: &[3.0], eta: &[5.0] };
+/// assert_eq!(compute_residuals(rows, wcs)?, [Residual { x: 3.0, y: 4.0, px: 5.0 }]);
+/// # Ok::<(), moorspindle::Refusal>(())
+/// ```
 pub fn compute_residuals(rows: Rows, wcs: Wcs) -> Result<Vec<Residual>> {
     let Rows { px, py, xi, eta } = rows;
     let [mut x, mut y, mut all] = [(); 3].map(|()| vec![0.0; px.len()]);
@@ -156,6 +223,11 @@ pub fn compute_residuals(rows: Rows, wcs: Wcs) -> Result<Vec<Residual>> {
 }
 
 /// The root mean square.
+///
+/// ```
+/// assert_eq!(moorspindle::plate::rms_error(&[3.0, -3.0])?, 3.0);
+/// # Ok::<(), moorspindle::Refusal>(())
+/// ```
 pub fn rms_error(errors: &[f64]) -> Result<f64> {
     let mut rms = 0.0;
     done(call!(moorspindle_rms_error(in errors, num rms)))?;
@@ -163,6 +235,11 @@ pub fn rms_error(errors: &[f64]) -> Result<f64> {
 }
 
 /// The weighted root mean square.
+///
+/// ```
+/// assert_eq!(moorspindle::plate::weighted_rms_error(&[3.0, 9.0], &[2.0, 0.0])?, 3.0);
+/// # Ok::<(), moorspindle::Refusal>(())
+/// ```
 pub fn weighted_rms_error(errors: &[f64], weights: &[f64]) -> Result<f64> {
     let mut rms = 0.0;
     done(call!(moorspindle_weighted_rms_error(in errors, in weights, num rms)))?;
@@ -171,6 +248,12 @@ pub fn weighted_rms_error(errors: &[f64], weights: &[f64]) -> Result<f64> {
 
 /// The unknowns of as many equations as b has numbers; a is given row by row. More than 54 are
 /// refused with [`Refusal::Count`].
+///
+/// ```
+/// let (a, b) = ([0.0, 2.0, 4.0, 0.0], [6.0, 8.0]);
+/// assert_eq!(moorspindle::plate::solve_normal_equations(&a, &b)?, [2.0, 3.0]);
+/// # Ok::<(), moorspindle::Refusal>(())
+/// ```
 pub fn solve_normal_equations(a: &[f64], b: &[f64]) -> Result<Vec<f64>> {
     let (n, mut x) = (count(b.len()), vec![0.0; b.len()]);
     done(call!(moorspindle_solve_normal_equations(in a, in b, n, out x)))?;

@@ -16,6 +16,21 @@ const MOST_BYTES: usize = 1065;
 const MOST_TERMS: usize = 18;
 
 /// What a record shows: a fit, and the plate that it stands on.
+///
+/// ```
+/// use moorspindle::plate::Wcs;
+/// use moorspindle::record::Solution;
+/// use moorspindle::sip::Sip;
+///
+/// let (a, b) = (vec![0.5, 0.0, 0.0], vec![0.0; 3]);
+/// let sip = Sip { order: 2, a, b, rows_used: 6, linear_rms: 0.5, rms: 0.0, wrms: 0.0 };
+/// let wcs = Wcs { crpix1: 0.0, crpix2: 0.0, cd1_1: 1.0, cd1_2: 0.0, cd2_1: 0.0, cd2_2: 1.0 };
+/// let solution = Solution { sip, wcs };
+/// let text = solution.write()?;
+/// assert_eq!(Solution::read(&text), Ok(solution));
+/// assert_eq!(Solution::read(text.replace("rows=6", "rows=06")).unwrap_err().line, 2);
+/// # Ok::<(), moorspindle::Refusal>(())
+/// ```
 #[derive(Clone, Debug, PartialEq)]
 pub struct Solution {
     pub sip: Sip,
@@ -81,6 +96,18 @@ impl Solution {
 /// The text of a solution in format 2: a line for each number, floats as the 16 hex digits of their
 /// bits. The a and b lines hold the FITS SIP convention's coefficients, ideal minus pixel: those
 /// that were solved, with their sign bits turned.
+///
+/// ```
+/// use moorspindle::{plate::Wcs, record::write_record, sip::Sip};
+///
+/// let (a, b) = (vec![0.5, 0.0, 0.0], vec![0.0; 3]);
+/// let sip = Sip { order: 2, a, b, rows_used: 6, linear_rms: 0.5, rms: 0.0, wrms: 0.0 };
+/// let wcs = Wcs { crpix1: 0.0, crpix2: 0.0, cd1_1: 1.0, cd1_2: 0.0, cd2_1: 0.0, cd2_2: 1.0 };
+/// let text = write_record(&sip, wcs)?;
+/// assert!(text.starts_with("format=2\nrows=6\n"));
+/// assert!(text.contains("\norder=2\na_2_0=bfe0000000000000\n"));
+/// # Ok::<(), moorspindle::Refusal>(())
+/// ```
 pub fn write_record(sip: &Sip, wcs: Wcs) -> Result<String> {
     let (mut text, mut written) = (vec![0; MOST_BYTES], 0);
     let sums = [sip.linear_rms, sip.rms, sip.wrms];

@@ -20,11 +20,33 @@ pub struct Sip {
 }
 
 /// The powers p and q of each term u^p v^q: by total degree from 2 to the order, p falling.
+///
+/// ```
+/// let terms: Vec<(u32, u32)> = moorspindle::sip::terms(3).collect();
+/// assert_eq!(terms, [(2, 0), (1, 1), (0, 2), (3, 0), (2, 1), (1, 2), (0, 3)]);
+/// ```
 pub fn terms(order: u32) -> impl Iterator<Item = (u32, u32)> {
     (2..=order).flat_map(|total| (0..=total).map(move |q| (total - q, q)))
 }
 
 /// Fits both polynomials to the rows, each weighted by its snr squared.
+///
+/// ```
+/// use moorspindle::{Refusal, Rows, plate::Wcs, sip::fit_sip};
+///
+/// let wcs = Wcs { crpix1: 0.0, crpix2: 0.0, cd1_1: 1.0, cd1_2: 0.0, cd2_1: 0.0, cd2_2: 1.0 };
+/// let py = [0.0, 0.0, 1.0, 1.0, -1.0, -1.0];
+/// let rows = Rows {
+///     px: &[1.0, -1.0, 1.0, -1.0, 1.0, -1.0],
+///     py: &py,
+///     xi: &[0.5, -1.5, 0.5, -1.5, 0.5, -1.5],
+///     eta: &py,
+/// };
+/// let sip = fit_sip(rows, &[20.0; 6], wcs, 2)?;
+/// assert_eq!((sip.rows_used, sip.a), (6, vec![0.5, 0.0, 0.0]));
+/// assert_eq!(fit_sip(rows, &[20.0; 6], wcs, 3), Err(Refusal::Rows));
+/// # Ok::<(), Refusal>(())
+/// ```
 pub fn fit_sip(rows: Rows, snr: &[f64], wcs: Wcs, order: u32) -> Result<Sip> {
     let Rows { px, py, xi, eta } = rows;
     let room = terms(order.min(9)).count();
