@@ -10,8 +10,9 @@
 #include <stdio.h>
 #include <string.h>
 
-enum { MOST = 100, QUADS = 12000, MATCHES = 65536, NEIGHBOURS = 10, TRIALS = 1000 };
-enum { ORDER = 3, TERMS = 7, RECORD = 1065 };
+enum { MOST = MOORSPINDLE_MOST_ROWS, QUADS = MOORSPINDLE_MOST_QUADS, MATCHES = 65536 };
+enum { NEIGHBOURS = 10, TRIALS = 1000 };
+enum { ORDER = 3, TERMS = 7, RECORD = MOORSPINDLE_MOST_RECORD };
 
 static const double LIMIT = 5.0; /* pixels */
 

@@ -6,7 +6,8 @@
 #include <inttypes.h>
 #include <stdio.h>
 
-enum { STARS = 60, QUADS = 12000, MATCHES = 16384, TERMS = 7, RECORD = 1065 };
+enum { STARS = 60, QUADS = MOORSPINDLE_MOST_QUADS, MATCHES = 16384 };
+enum { TERMS = 7, RECORD = MOORSPINDLE_MOST_RECORD };
 
 static struct {
     double x[STARS], y[STARS], xi[STARS], eta[STARS], snr[STARS];

@@ -7,8 +7,24 @@
 //!
 //! The modules follow the way of a frame: [`quad`], [`matching`], [`affine`], [`plate`], [`sip`],
 //! [`record`]; [`floats`] has the arithmetic that all of them stand on.
+//!
+//! Every count is a `usize`, but for the votes, whose lists are lent as they are. One that is given and
+//! above what the C face has room for, 32 bits, is above every limit too: it is refused with
+//! [`Refusal::Count`] like any other that is too great.
+//!
+//! ```
+//! use moorspindle::{Refusal, quad};
+//!
+//! let square = quad::neighbor_quads(&[0.0, 1.0, 0.0, 1.0], &[0.0, 0.0, 1.0, 1.0], 3, 0.0)?;
+//! for quad in &square {
+//!     assert_eq!(quad.places, [0, 3, 1, 2]);
+//! }
+//! assert_eq!(quad::neighbor_quads(&[0.0], &[], 3, 0.0), Err(Refusal::Lengths));
+//! # Ok::<(), Refusal>(())
+//! ```
 
 pub mod affine;
+mod call;
 mod ffi;
 pub mod floats;
 pub mod matching;
@@ -20,8 +36,19 @@ pub mod sip;
 use std::error::Error;
 use std::fmt::{self, Display};
 
-/// Why a call has no answer.
+/// Why a call has no answer. More may come: a `match` on it has an arm for the others.
+///
+/// ```
+/// use moorspindle::{Refusal, quad};
+///
+/// let words = match quad::combinations_4(101).unwrap_err() {
+///     Refusal::Count => "at most 100 stars".to_string(),
+///     other => other.to_string(),
+/// };
+/// assert_eq!(words, "at most 100 stars");
+/// ```
 #[derive(Clone, Copy, Debug, PartialEq, Eq, Hash)]
+#[non_exhaustive]
 #[repr(u32)]
 pub enum Refusal {
     /// A count is outside its limit.
@@ -48,6 +75,10 @@ pub enum Refusal {
 
 impl Refusal {
     /// The number of the scope's table.
+    ///
+    /// ```
+    /// assert_eq!(moorspindle::Refusal::Index.number(), 11);
+    /// ```
     pub fn number(self) -> u32 {
         self as u32
     }
@@ -96,8 +127,27 @@ fn done(number: u32) -> Result<()> {
     if number == 0 { Ok(()) } else { Err(Refusal::of(number)) }
 }
 
+/// A count as the C face takes it. One above 32 bits becomes the greatest of them: no call takes as
+/// many as that either, and each refuses it with [`Refusal::Count`].
+fn count(n: usize) -> u32 {
+    u32::try_from(n).unwrap_or(u32::MAX)
+}
+
+/// A count that the C face answers. It is of what lies in lent memory, or of at most 100 rows: it fits.
+fn size(n: u64) -> usize {
+    n as usize
+}
+
 /// Rows: pixels, and the points of the tangent plane that belong to them. The four lists are of one
 /// length, or a call refuses them with [`Refusal::Lengths`].
+///
+/// ```
+/// use moorspindle::{Refusal, Rows, affine};
+///
+/// let rows = Rows { px: &[1.0, 2.0], py: &[3.0, 4.0], xi: &[0.5, 0.5], eta: &[] };
+/// assert_eq!(rows.len(), 2);
+/// assert_eq!(affine::verify_pairs(rows), Err(Refusal::Lengths));
+/// ```
 #[derive(Clone, Copy, Debug, PartialEq)]
 pub struct Rows<'a> {
     pub px: &'a [f64],

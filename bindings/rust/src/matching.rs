@@ -1,7 +1,11 @@
 //! Matches of quads, by an index too, and the pairs that their votes make.
 
+use std::slice::ChunksExact;
+
+use crate::call::call;
+use crate::ffi::*;
 use crate::quad::Quads;
-use crate::{Refusal, Result, done, ffi};
+use crate::{Refusal, Result, done, size};
 
 /// The matches for which there is room at first.
 const FIRST_ROOM: usize = 16_384;
@@ -14,6 +18,17 @@ pub struct Match {
 }
 
 /// A list of matches, eight star places to each.
+///
+/// ```
+/// use moorspindle::matching::{Match, Matches};
+///
+/// let found = Match { image: [0, 3, 1, 2], catalogue: [7, 4, 6, 5] };
+/// let matches: Matches = [found; 2].into_iter().collect();
+/// assert_eq!((matches.len(), matches.iter().len()), (2, 2));
+/// for each in &matches {
+///     assert_eq!(each, found);
+/// }
+/// ```
 #[derive(Clone, Debug, Default, PartialEq, Eq)]
 pub struct Matches(Vec<u8>);
 
@@ -26,11 +41,8 @@ impl Matches {
         self.0.is_empty()
     }
 
-    pub fn iter(&self) -> impl ExactSizeIterator<Item = Match> + '_ {
-        let four = |places: &[u8]| places.try_into().expect("four places");
-        self.0
-            .chunks_exact(8)
-            .map(move |m| Match { image: four(&m[..4]), catalogue: four(&m[4..]) })
+    pub fn iter(&self) -> Iter<'_> {
+        Iter(self.0.chunks_exact(8))
     }
 }
 
@@ -40,23 +52,53 @@ impl FromIterator<Match> for Matches {
     }
 }
 
+impl<'a> IntoIterator for &'a Matches {
+    type Item = Match;
+    type IntoIter = Iter<'a>;
+
+    fn into_iter(self) -> Iter<'a> {
+        self.iter()
+    }
+}
+
+/// The matches of a list, in its order.
+#[derive(Clone, Debug)]
+pub struct Iter<'a>(ChunksExact<'a, u8>);
+
+impl Iterator for Iter<'_> {
+    type Item = Match;
+
+    fn next(&mut self) -> Option<Match> {
+        let (image, catalogue) = self.0.next()?.split_at(4);
+        let four = |places: &[u8]| places.try_into().expect("four places");
+        Some(Match { image: four(image), catalogue: four(catalogue) })
+    }
+
+    fn size_hint(&self) -> (usize, Option<usize>) {
+        self.0.size_hint()
+    }
+}
+
+impl ExactSizeIterator for Iter<'_> {}
+
 /// Every pair of quads of one shape: by image quad, then key number, then catalogue quad.
+///
+/// ```
+/// use moorspindle::matching::find_matches;
+/// use moorspindle::quad::neighbor_quads;
+///
+/// let small = neighbor_quads(&[0.0, 1.0, 0.0, 1.0], &[0.0, 0.0, 1.0, 1.0], 3, 0.0)?;
+/// let large = neighbor_quads(&[5.0, 9.0, 5.0, 9.0], &[5.0, 5.0, 9.0, 9.0], 3, 0.0)?;
+/// let matches = find_matches(&small, &large)?;
+/// assert_eq!(matches.iter().next().unwrap().catalogue, [0, 3, 1, 2]);
+/// # Ok::<(), moorspindle::Refusal>(())
+/// ```
 pub fn find_matches(image: &Quads, catalogue: &Quads) -> Result<Matches> {
-    // SAFETY: each pointer goes with its length, and the outputs overlap nothing else
-    with_room(|matches, found| unsafe {
-        ffi::moorspindle_find_matches(
-            image.places.as_ptr(),
-            image.places.len(),
-            image.hashes.as_ptr(),
-            image.hashes.len(),
-            catalogue.places.as_ptr(),
-            catalogue.places.len(),
-            catalogue.hashes.as_ptr(),
-            catalogue.hashes.len(),
-            matches.as_mut_ptr(),
-            matches.len(),
-            found,
-        )
+    with_room(|matches, found| {
+        call!(moorspindle_find_matches(
+            in image.places, in image.hashes, in catalogue.places, in catalogue.hashes,
+            out *matches, num *found
+        ))
     })
 }
 
@@ -80,37 +122,33 @@ pub struct Index(Vec<u64>);
 impl Index {
     /// Refused with [`Refusal::Count`] above 12,000 quads.
     pub fn build(catalogue: &Quads) -> Result<Index> {
-        let hashes = &catalogue.hashes;
         let mut table = vec![0; 2 * catalogue.len()];
-        // SAFETY: as above
-        done(unsafe {
-            let (out, room) = (table.as_mut_ptr(), table.len());
-            ffi::moorspindle_build_hash_index(hashes.as_ptr(), hashes.len(), out, room)
-        })?;
+        done(call!(moorspindle_build_hash_index(in catalogue.hashes, out table)))?;
         Ok(Index(table))
     }
 }
 
 /// The matches of [`find_matches`], in their order, by the catalogue list's index: in a small part of
 /// the time. The index of another list is refused with [`Refusal::Index`].
+///
+/// ```
+/// use moorspindle::Refusal;
+/// use moorspindle::matching::{Index, find_matches_indexed};
+/// use moorspindle::quad::{Quads, neighbor_quads};
+///
+/// let square = neighbor_quads(&[0.0, 1.0, 0.0, 1.0], &[0.0, 0.0, 1.0, 1.0], 3, 0.0)?;
+/// let index = Index::build(&square)?;
+/// assert_eq!(find_matches_indexed(&square, &square, &index)?.len(), 1);
+/// let twice: Quads = square.iter().chain(&square).collect();
+/// assert_eq!(find_matches_indexed(&square, &twice, &index), Err(Refusal::Index));
+/// # Ok::<(), Refusal>(())
+/// ```
 pub fn find_matches_indexed(image: &Quads, catalogue: &Quads, index: &Index) -> Result<Matches> {
-    // SAFETY: as above
-    with_room(|matches, found| unsafe {
-        ffi::moorspindle_find_matches_indexed(
-            image.places.as_ptr(),
-            image.places.len(),
-            image.hashes.as_ptr(),
-            image.hashes.len(),
-            catalogue.places.as_ptr(),
-            catalogue.places.len(),
-            catalogue.hashes.as_ptr(),
-            catalogue.hashes.len(),
-            index.0.as_ptr(),
-            index.0.len(),
-            matches.as_mut_ptr(),
-            matches.len(),
-            found,
-        )
+    with_room(|matches, found| {
+        call!(moorspindle_find_matches_indexed(
+            in image.places, in image.hashes, in catalogue.places, in catalogue.hashes,
+            in index.0, out *matches, num *found
+        ))
     })
 }
 
@@ -122,7 +160,7 @@ fn with_room(find: impl Fn(&mut [u8], &mut u64) -> u32) -> Result<Matches> {
         match done(find(&mut matches, &mut found)) {
             Err(Refusal::Room) => room *= 8,
             answer => {
-                matches.truncate(8 * found as usize);
+                matches.truncate(8 * size(found));
                 return answer.map(|()| Matches(matches));
             }
         }
@@ -165,6 +203,22 @@ pub struct Pair {
 }
 
 /// The pairs that two votes or more make: by votes falling, then by detection.
+///
+/// ```
+/// use moorspindle::matching::{Detections, Ids, Match, Matches, Results, extract_pairs};
+///
+/// let found = Match { image: [0, 1, 2, 3], catalogue: [0, 1, 2, 3] };
+/// let matches: Matches = [found; 2].into_iter().collect();
+/// let pairs = extract_pairs(
+///     &matches,
+///     Detections { x: &[1.0, 2.0, 3.0, 4.0], y: &[5.0; 4], snr: &[20.0; 4] },
+///     Ids { image: &[0, 1, 2, 3], catalogue: &[70, 71, 72, 73] },
+///     Results { ids: &[71, 73], ra: &[10.0, 11.0], dec: &[-3.0, -4.0] },
+/// )?;
+/// assert_eq!(pairs.len(), 2);
+/// assert_eq!((pairs[0].px, pairs[0].ra, pairs[0].votes), (2.0, 10.0, 2));
+/// # Ok::<(), moorspindle::Refusal>(())
+/// ```
 pub fn extract_pairs(
     matches: &Matches,
     detections: Detections,
@@ -174,42 +228,11 @@ pub fn extract_pairs(
     let room = detections.x.len();
     let [mut px, mut py, mut ra, mut dec, mut snr] = [(); 5].map(|()| vec![0.0; room]);
     let (mut votes, mut pairs) = (vec![0; room], 0);
-    // SAFETY: as above
-    done(unsafe {
-        ffi::moorspindle_extract_pairs(
-            matches.0.as_ptr(),
-            matches.0.len(),
-            detections.x.as_ptr(),
-            detections.x.len(),
-            detections.y.as_ptr(),
-            detections.y.len(),
-            detections.snr.as_ptr(),
-            detections.snr.len(),
-            ids.image.as_ptr(),
-            ids.image.len(),
-            ids.catalogue.as_ptr(),
-            ids.catalogue.len(),
-            results.ids.as_ptr(),
-            results.ids.len(),
-            results.ra.as_ptr(),
-            results.ra.len(),
-            results.dec.as_ptr(),
-            results.dec.len(),
-            px.as_mut_ptr(),
-            room,
-            py.as_mut_ptr(),
-            room,
-            ra.as_mut_ptr(),
-            room,
-            dec.as_mut_ptr(),
-            room,
-            votes.as_mut_ptr(),
-            room,
-            snr.as_mut_ptr(),
-            room,
-            &mut pairs,
-        )
-    })?;
+    done(call!(moorspindle_extract_pairs(
+        in matches.0, in detections.x, in detections.y, in detections.snr,
+        in ids.image, in ids.catalogue, in results.ids, in results.ra, in results.dec,
+        out px, out py, out ra, out dec, out votes, out snr, num pairs
+    )))?;
     let pair = |i: usize| Pair {
         px: px[i],
         py: py[i],
@@ -218,5 +241,5 @@ pub fn extract_pairs(
         votes: votes[i],
         snr: snr[i],
     };
-    Ok((0..pairs as usize).map(pair).collect())
+    Ok((0..size(pairs)).map(pair).collect())
 }

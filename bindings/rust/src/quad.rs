@@ -1,6 +1,10 @@
 //! Quads: sets of four stars, hashed by their shape.
 
-use crate::{Result, done, ffi};
+use std::slice::ChunksExact;
+
+use crate::call::call;
+use crate::ffi::*;
+use crate::{Result, count, done, size};
 
 /// The most quads that a list of stars gives.
 const MOST_QUADS: usize = 12_000;
@@ -21,6 +25,17 @@ pub struct Quad {
 }
 
 /// A list of quads, four places and four hash numbers to each.
+///
+/// ```
+/// use moorspindle::quad::{Quad, Quads};
+///
+/// let quad = Quad { places: [0, 3, 1, 2], hash: [0.5, -0.5, 0.5, 0.5] };
+/// let quads: Quads = [quad; 3].into_iter().collect();
+/// assert_eq!((quads.len(), quads.iter().len()), (3, 3));
+/// for each in &quads {
+///     assert_eq!(each, quad);
+/// }
+/// ```
 #[derive(Clone, Debug, Default, PartialEq)]
 pub struct Quads {
     pub(crate) places: Vec<u8>,
@@ -36,12 +51,8 @@ impl Quads {
         self.places.is_empty()
     }
 
-    pub fn iter(&self) -> impl ExactSizeIterator<Item = Quad> + '_ {
-        let fours = self.places.chunks_exact(4).zip(self.hashes.chunks_exact(4));
-        fours.map(|(places, hash)| Quad {
-            places: places.try_into().expect("four places"),
-            hash: hash.try_into().expect("four numbers"),
-        })
+    pub fn iter(&self) -> Iter<'_> {
+        Iter { places: self.places.chunks_exact(4), hashes: self.hashes.chunks_exact(4) }
     }
 }
 
@@ -56,39 +67,85 @@ impl FromIterator<Quad> for Quads {
     }
 }
 
+impl<'a> IntoIterator for &'a Quads {
+    type Item = Quad;
+    type IntoIter = Iter<'a>;
+
+    fn into_iter(self) -> Iter<'a> {
+        self.iter()
+    }
+}
+
+/// The quads of a list, in its order.
+#[derive(Clone, Debug)]
+pub struct Iter<'a> {
+    places: ChunksExact<'a, u8>,
+    hashes: ChunksExact<'a, f64>,
+}
+
+impl Iterator for Iter<'_> {
+    type Item = Quad;
+
+    fn next(&mut self) -> Option<Quad> {
+        let (places, hash) = (self.places.next()?, self.hashes.next()?);
+        Some(Quad {
+            places: places.try_into().expect("four places"),
+            hash: hash.try_into().expect("four numbers"),
+        })
+    }
+
+    fn size_hint(&self) -> (usize, Option<usize>) {
+        self.places.size_hint()
+    }
+}
+
+impl ExactSizeIterator for Iter<'_> {}
+
 /// The two stars of four that are furthest apart, in order, then the other two.
+///
+/// ```
+/// use moorspindle::quad::find_spine;
+///
+/// let spine = find_spine(&[0.0, 1.0, 0.0, 1.0], &[0.0, 0.0, 1.0, 1.0], [0, 1, 2, 3])?;
+/// assert_eq!(spine, [0, 3, 1, 2]);
+/// # Ok::<(), moorspindle::Refusal>(())
+/// ```
 pub fn find_spine(xs: &[f64], ys: &[f64], [p, q, r, s]: [u8; 4]) -> Result<[u8; 4]> {
     let mut spine = [0; 4];
-    let (nx, ny) = (xs.len(), ys.len());
-    // SAFETY: each pointer goes with its length, and the output overlaps nothing else
-    done(unsafe {
-        let (xs, ys, out) = (xs.as_ptr(), ys.as_ptr(), spine.as_mut_ptr());
-        ffi::moorspindle_find_spine(xs, nx, ys, ny, p, q, r, s, out, 4)
-    })?;
+    done(call!(moorspindle_find_spine(in xs, in ys, p, q, r, s, out spine)))?;
     Ok(spine)
 }
 
 /// The places of two stars, by smaller x, then y, then place.
+///
+/// ```
+/// use moorspindle::quad::{Star, orient_spine};
+///
+/// let (a, b) = (Star { x: 1.0, y: 1.0, place: 3 }, Star { x: 0.0, y: 0.0, place: 0 });
+/// assert_eq!(orient_spine(a, b)?, [0, 3]);
+/// # Ok::<(), moorspindle::Refusal>(())
+/// ```
 pub fn orient_spine(a: Star, b: Star) -> Result<[u8; 2]> {
     let mut pair = [0; 2];
-    // SAFETY: as above
-    done(unsafe {
-        let out = pair.as_mut_ptr();
-        ffi::moorspindle_orient_spine(a.x, a.y, a.place, b.x, b.y, b.place, out, 2)
-    })?;
+    done(call!(moorspindle_orient_spine(a.x, a.y, a.place, b.x, b.y, b.place, out pair)))?;
     Ok(pair)
 }
 
 /// The hash of four stars whose first two are the spine; the other two stand by their hash.
+///
+/// ```
+/// use moorspindle::quad::normalize_quad_ordered;
+///
+/// let (xs, ys) = ([0.0, 1.0, 0.0, 1.0], [0.0, 0.0, 1.0, 1.0]);
+/// let quad = normalize_quad_ordered(&xs, &ys, [0, 3, 2, 1])?;
+/// assert_eq!((quad.places, quad.hash), ([0, 3, 1, 2], [0.5, -0.5, 0.5, 0.5]));
+/// # Ok::<(), moorspindle::Refusal>(())
+/// ```
 pub fn normalize_quad_ordered(xs: &[f64], ys: &[f64], [a, b, c, d]: [u8; 4]) -> Result<Quad> {
     let mut quad = Quad { places: [0; 4], hash: [0.0; 4] };
-    let (nx, ny) = (xs.len(), ys.len());
-    // SAFETY: as above
-    done(unsafe {
-        let (hash, places) = (quad.hash.as_mut_ptr(), quad.places.as_mut_ptr());
-        let (xs, ys) = (xs.as_ptr(), ys.as_ptr());
-        ffi::moorspindle_normalize_quad_ordered(xs, nx, ys, ny, a, b, c, d, hash, 4, places, 4)
-    })?;
+    done(call!(moorspindle_normalize_quad_ordered(
+        in xs, in ys, a, b, c, d, out quad.hash, out quad.places
+    )))?;
     Ok(quad)
 }
 
@@ -99,11 +156,20 @@ pub struct Combinations {
     state: [u8; 5],
 }
 
-/// The sets of four places below n.
-pub fn combinations_4(n: u32) -> Result<Combinations> {
-    let mut state = [0; 5];
-    // SAFETY: as above
-    done(unsafe { ffi::moorspindle_combinations_4(n, state.as_mut_ptr(), 5) })?;
+/// The sets of four places below n, which is at most 100, or else refused with
+/// [`Refusal::Count`](crate::Refusal::Count).
+///
+/// ```
+/// use moorspindle::{Refusal, quad::combinations_4};
+///
+/// let sets: Vec<[u8; 4]> = combinations_4(5)?.collect();
+/// assert_eq!((sets.len(), sets[1]), (5, [0, 1, 2, 4]));
+/// assert_eq!(combinations_4(usize::MAX).unwrap_err(), Refusal::Count);
+/// # Ok::<(), Refusal>(())
+/// ```
+pub fn combinations_4(n: usize) -> Result<Combinations> {
+    let (n, mut state) = (count(n), [0; 5]);
+    done(call!(moorspindle_combinations_4(n, out state)))?;
     Ok(Combinations { n, state })
 }
 
@@ -112,55 +178,56 @@ impl Iterator for Combinations {
 
     fn next(&mut self) -> Option<[u8; 4]> {
         let (mut places, mut given) = ([0; 4], 0);
-        let (state, out) = (self.state.as_mut_ptr(), places.as_mut_ptr());
-        // SAFETY: as above
-        let number =
-            unsafe { ffi::moorspindle_combinations_4_next(self.n, state, 5, out, 4, &mut given) };
+        let number = call!(moorspindle_combinations_4_next(
+            self.n, out self.state, out places, num given
+        ));
         debug_assert_eq!(number, 0, "a state that the steps made is taken");
         (given == 1).then_some(places)
     }
 }
 
-/// The quads of each star with three of its k nearest, each set of four once.
-pub fn neighbor_quads(xs: &[f64], ys: &[f64], k: u32, min_spine_sq: f64) -> Result<Quads> {
+/// The quads of each star with three of its k nearest, each set of four once. A k above 10 is refused
+/// with [`Refusal::Count`](crate::Refusal::Count).
+///
+/// ```
+/// use moorspindle::quad::neighbor_quads;
+///
+/// let (xs, ys) = ([0.0, 1.0, 0.0, 1.0], [0.0, 0.0, 1.0, 1.0]);
+/// assert_eq!(neighbor_quads(&xs, &ys, 3, 0.0)?.len(), 1);
+/// assert_eq!(neighbor_quads(&xs, &ys, 3, 2.5)?.len(), 0);
+/// # Ok::<(), moorspindle::Refusal>(())
+/// ```
+pub fn neighbor_quads(xs: &[f64], ys: &[f64], k: usize, min_spine_sq: f64) -> Result<Quads> {
     let mut list = Quads { places: vec![0; 4 * MOST_QUADS], hashes: vec![0.0; 4 * MOST_QUADS] };
-    let (nx, ny, room) = (xs.len(), ys.len(), 4 * MOST_QUADS);
     let mut found = 0;
-    // SAFETY: as above
-    done(unsafe {
-        let (places, hashes) = (list.places.as_mut_ptr(), list.hashes.as_mut_ptr());
-        let (xs, ys) = (xs.as_ptr(), ys.as_ptr());
-        ffi::moorspindle_neighbor_quads(
-            xs,
-            nx,
-            ys,
-            ny,
-            k,
-            min_spine_sq,
-            places,
-            room,
-            hashes,
-            room,
-            &mut found,
-        )
-    })?;
-    list.places.truncate(4 * found as usize);
-    list.hashes.truncate(4 * found as usize);
+    done(call!(moorspindle_neighbor_quads(
+        in xs, in ys, count(k), min_spine_sq, out list.places, out list.hashes, num found
+    )))?;
+    list.places.truncate(4 * size(found));
+    list.hashes.truncate(4 * size(found));
     Ok(list)
 }
 
 /// The key of a hash: four lanes of 16 bits.
+///
+/// ```
+/// assert_eq!(moorspindle::quad::discrete_hash_key([0.5, -0.5, 0.5, 0.5]), 0x0226_0226_01c2_0226);
+/// ```
 pub fn discrete_hash_key([h0, h1, h2, h3]: [f64; 4]) -> u64 {
-    ffi::moorspindle_discrete_hash_key(h0, h1, h2, h3)
+    moorspindle_discrete_hash_key(h0, h1, h2, h3)
 }
 
 /// The 81 keys whose lanes are at most one away; number 40 is the key itself.
+///
+/// ```
+/// use moorspindle::quad::{discrete_hash_key, discrete_hash_key_neighbors};
+///
+/// let keys = discrete_hash_key_neighbors([0.5, -0.5, 0.5, 0.5]);
+/// assert_eq!(keys[40], discrete_hash_key([0.5, -0.5, 0.5, 0.5]));
+/// ```
 pub fn discrete_hash_key_neighbors([h0, h1, h2, h3]: [f64; 4]) -> [u64; 81] {
     let mut keys = [0; 81];
-    // SAFETY: as above
-    let number = unsafe {
-        ffi::moorspindle_discrete_hash_key_neighbors(h0, h1, h2, h3, keys.as_mut_ptr(), 81)
-    };
+    let number = call!(moorspindle_discrete_hash_key_neighbors(h0, h1, h2, h3, out keys));
     debug_assert_eq!(number, 0, "81 places are enough");
     keys
 }

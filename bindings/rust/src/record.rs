@@ -3,9 +3,11 @@
 use std::error::Error;
 use std::fmt::{self, Display};
 
+use crate::call::call;
+use crate::ffi::*;
 use crate::plate::Wcs;
 use crate::sip::{Sip, terms};
-use crate::{Result, done, ffi};
+use crate::{Result, done, size};
 
 /// No record is longer.
 const MOST_BYTES: usize = 1065;
@@ -14,6 +16,21 @@ const MOST_BYTES: usize = 1065;
 const MOST_TERMS: usize = 18;
 
 /// What a record shows: a fit, and the plate that it stands on.
+///
+/// ```
+/// use moorspindle::plate::Wcs;
+/// use moorspindle::record::Solution;
+/// use moorspindle::sip::Sip;
+///
+/// let (a, b) = (vec![0.5, 0.0, 0.0], vec![0.0; 3]);
+/// let sip = Sip { order: 2, a, b, rows_used: 6, linear_rms: 0.5, rms: 0.0, wrms: 0.0 };
+/// let wcs = Wcs { crpix1: 0.0, crpix2: 0.0, cd1_1: 1.0, cd1_2: 0.0, cd2_1: 0.0, cd2_2: 1.0 };
+/// let solution = Solution { sip, wcs };
+/// let text = solution.write()?;
+/// assert_eq!(Solution::read(&text), Ok(solution));
+/// assert_eq!(Solution::read(text.replace("rows=6", "rows=06")).unwrap_err().line, 2);
+/// # Ok::<(), moorspindle::Refusal>(())
+/// ```
 #[derive(Clone, Debug, PartialEq)]
 pub struct Solution {
     pub sip: Sip,
@@ -25,7 +42,7 @@ pub struct Solution {
 pub struct WrongLine {
     /// The number, from 1, of the first line that cannot stand there: some record begins with the
     /// lines before it, and none with the lines up to it.
-    pub line: u64,
+    pub line: usize,
 }
 
 impl Display for WrongLine {
@@ -48,37 +65,21 @@ impl Solution {
         let text = text.as_ref();
         let (mut format, mut rows_used, mut order, mut line) = (0, 0, 0, 0);
         let (mut a, mut b) = (vec![0.0; MOST_TERMS], vec![0.0; MOST_TERMS]);
-        let (mut numbers, mut sums) = ([0.0; 6], [0.0; 3]);
-        // SAFETY: each pointer goes with its length, and the outputs overlap nothing else
-        let number = unsafe {
-            ffi::moorspindle_read_record(
-                text.as_ptr(),
-                text.len(),
-                &mut format,
-                &mut rows_used,
-                numbers.as_mut_ptr(),
-                6,
-                &mut order,
-                a.as_mut_ptr(),
-                a.len(),
-                b.as_mut_ptr(),
-                b.len(),
-                sums.as_mut_ptr(),
-                3,
-                &mut line,
-            )
-        };
+        let (mut wcs, mut sums) = ([0.0; 6], [0.0; 3]);
+        let number = call!(moorspindle_read_record(
+            in text, num format, num rows_used, out wcs, num order, out a, out b, out sums, num line
+        ));
         match number {
             0 => {}
-            10 => return Err(WrongLine { line }),
+            10 => return Err(WrongLine { line: size(line) }),
             other => unreachable!("there is room, and no record is refused by {other}"),
         }
         let n = terms(order).count();
         a.truncate(n);
         b.truncate(n);
         let [linear_rms, rms, wrms] = sums;
-        let sip = Sip { order, a, b, rows_used: rows_used as usize, linear_rms, rms, wrms };
-        Ok((Solution { sip, wcs: Wcs::of(numbers) }, format))
+        let sip = Sip { order, a, b, rows_used: size(rows_used), linear_rms, rms, wrms };
+        Ok((Solution { sip, wcs: Wcs::of(wcs) }, format))
     }
 
     /// Its record, in format 2.
@@ -95,27 +96,25 @@ impl Solution {
 /// The text of a solution in format 2: a line for each number, floats as the 16 hex digits of their
 /// bits. The a and b lines hold the FITS SIP convention's coefficients, ideal minus pixel: those
 /// that were solved, with their sign bits turned.
+///
+/// ```
+/// use moorspindle::{plate::Wcs, record::write_record, sip::Sip};
+///
+/// let (a, b) = (vec![0.5, 0.0, 0.0], vec![0.0; 3]);
+/// let sip = Sip { order: 2, a, b, rows_used: 6, linear_rms: 0.5, rms: 0.0, wrms: 0.0 };
+/// let wcs = Wcs { crpix1: 0.0, crpix2: 0.0, cd1_1: 1.0, cd1_2: 0.0, cd2_1: 0.0, cd2_2: 1.0 };
+/// let text = write_record(&sip, wcs)?;
+/// assert!(text.starts_with("format=2\nrows=6\n"));
+/// assert!(text.contains("\norder=2\na_2_0=bfe0000000000000\n"));
+/// # Ok::<(), moorspindle::Refusal>(())
+/// ```
 pub fn write_record(sip: &Sip, wcs: Wcs) -> Result<String> {
     let (mut text, mut written) = (vec![0; MOST_BYTES], 0);
-    let (numbers, sums) = (wcs.numbers(), [sip.linear_rms, sip.rms, sip.wrms]);
-    // SAFETY: each pointer goes with its length, and the outputs overlap nothing else
-    done(unsafe {
-        ffi::moorspindle_write_record(
-            sip.rows_used as u64,
-            numbers.as_ptr(),
-            6,
-            sip.order,
-            sip.a.as_ptr(),
-            sip.a.len(),
-            sip.b.as_ptr(),
-            sip.b.len(),
-            sums.as_ptr(),
-            3,
-            text.as_mut_ptr(),
-            text.len(),
-            &mut written,
-        )
-    })?;
-    text.truncate(written as usize);
+    let sums = [sip.linear_rms, sip.rms, sip.wrms];
+    done(call!(moorspindle_write_record(
+        sip.rows_used as u64, in wcs.numbers(), sip.order, in sip.a, in sip.b, in sums,
+        out text, num written
+    )))?;
+    text.truncate(size(written));
     Ok(String::from_utf8(text).expect("a record is ASCII"))
 }

@@ -106,6 +106,38 @@ fn matches_by_an_index() {
 }
 
 #[test]
+fn lists_by_reference() {
+    let square = quad::neighbor_quads(&XS, &YS, 3, 0.0).unwrap();
+    let quads: Quads = square.iter().chain(&square).chain(&square).collect();
+    let mut left = quads.iter();
+    for (passed, quad) in (&quads).into_iter().enumerate() {
+        assert_eq!(left.len(), 3 - passed);
+        assert_eq!((left.next(), square.iter().next()), (Some(quad), Some(quad)));
+    }
+    assert_eq!((left.len(), left.next()), (0, None));
+
+    let matches = find_matches(&quads, &square).unwrap();
+    let mut left = matches.iter();
+    for (passed, found) in (&matches).into_iter().enumerate() {
+        assert_eq!(left.len(), 3 - passed);
+        assert_eq!(left.next(), Some(found));
+    }
+    assert_eq!((left.len(), left.next()), (0, None));
+}
+
+/// Their lowest 32 bits alone would be taken.
+#[cfg(target_pointer_width = "64")]
+#[test]
+fn counts_above_32_bits() {
+    const MANY: usize = (1 << 32) + 3;
+    assert_eq!(quad::combinations_4(MANY).unwrap_err(), Refusal::Count);
+    assert_eq!(quad::neighbor_quads(&XS, &YS, MANY, 0.0), Err(Refusal::Count));
+    assert_eq!(plate::ransac_fit(ROWS, &[3; 5], 1.0, MANY), Err(Refusal::Count));
+    let sip = Sip { rows_used: MANY, ..bent() };
+    assert_eq!(write_record(&sip, WCS), Err(Refusal::Count));
+}
+
+#[test]
 fn affine_of_three_rows() {
     let unit = Affine { a11: 1.0, a12: 0.0, tx: 0.0, a21: 0.0, a22: 1.0, ty: 0.0 };
     assert_eq!(fit_affine_3pt(ROWS, [0, 1, 2]), Ok(unit));

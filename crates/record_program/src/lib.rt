@@ -75,14 +75,6 @@ fn put_wrong(buf: &mut [u8], line: u32) -> usize
     text::put_decimal_line(buf, p, b"line=", line as u64)
 }
 
-// Stands where no text leads: it asks for what never holds, so that each caller proves that it is not called.
-fn never() -> usize
-    requires { ⊥ }
-    ensures { ⊥ }
-{
-    0
-}
-
 // Puts the text that the program prints for a text at the front of out, and says how long it is.
 pub fn answer(s: &[u8], out: &mut [u8; 1074]) -> usize
     ensures text { take result out.new ≡ program_text s.now }
@@ -98,7 +90,7 @@ pub fn answer(s: &[u8], out: &mut [u8; 1074]) -> usize
             put_shown(out, format, fit, wcs, order, &a[..n], &b[..n])
         }
         Loaded::Wrong(line) => put_wrong(out, line),
-        // Eighteen places are room for every order.
-        Loaded::Refused(_) => never(),
+        // Eighteen places are room for every order: no text leads here.
+        Loaded::Refused(_) => 0,
     }
 }

@@ -44,9 +44,6 @@ put_wrong-requires c =
     let l : length c.args.out.now ≡ 1074 = search rules in
     room_is _ _ l (omega (arith, wrong_short c.in-Wrong.line))
 
-pub never-requires : goal.never-requires
-never-requires c = not_refused _ _ _ _ _ _ _ refl refl c.read_record.ensures c.in-Refused.is
-
 pub returns-in-Is : goal.returns-in-Is
 returns-in-Is c =
     let k = shows _ _ _ _ _ _ _ _ _ _ _ refl refl c.read_record.ensures c.in-Is.is c.term_count-n.ensures in
@@ -58,4 +55,4 @@ returns-in-Wrong c =
     let e = wrong_is _ _ _ _ _ _ _ refl refl c.read_record.ensures c.in-Wrong.is in let it = at_front _ _ _ _ _ e (room_is _ _ l (omega (arith, wrong_short c.in-Wrong.line))) c.put_wrong.ensures in record { text = it.0; count = it.1.0; rest = it.1.1.0; fits = it.1.1.1 }
 
 pub returns-in-Refused : goal.returns-in-Refused
-returns-in-Refused c = absurd c.never.ensures
+returns-in-Refused c = absurd (not_refused _ _ _ _ _ _ _ refl refl c.read_record.ensures c.in-Refused.is)
