@@ -9,10 +9,9 @@ ghost use Rattle.std.specs.Io.KnownBytes.{Appends, Consumes, IsAtEnd};
 ghost use Rattle.digits.specs.Digits.{decimal_of};
 ghost use Rattle.scan_digits.specs.Read.{read_decimal};
 ghost use Rattle.cases.specs.Lists.{float_text, comma_before, dash_for, list_field};
-ghost use Rattle.cases.specs.Fields.{after_space, field_after, float_at, number_at, after_member, member_after};
+ghost use Rattle.cases.specs.Fields.{after_space, field_after, float_at, number_at, after_comma, after_member, member_after};
+ghost use Rattle.scan.specs.Read.{read_bytes};
 
-use scan::Place;
-use scan_digits::Number;
 use std::io;
 use std::io::{BufRead, Write};
 
@@ -43,18 +42,16 @@ pub fn read_line<R: BufRead>(input: &mut R, out: &mut [u8]) -> io::Result<usize>
     ensures stops { IfOk result (λ n. StopsAt (take n out.new) 10) }
     ensures room { length out.new ≡ length out.old }
 {
-    let mut n = 0usize;
-    while n < out.len() {
+    for n in 0..out.len() {
         let Some(b) = next_byte(input)? else {
             return Ok(n);
         };
         out[n] = b;
-        n += 1;
         if b == 10 {
-            return Ok(n);
+            return Ok(n + 1);
         }
     }
-    Ok(n)
+    Ok(out.len())
 }
 
 // ---- fields
@@ -63,14 +60,12 @@ pub fn read_line<R: BufRead>(input: &mut R, out: &mut [u8]) -> io::Result<usize>
 fn next_field(s: &[u8], at: usize) -> usize
     ensures { result ≡ after_space (drop at s.now) at }
 {
-    let mut p = at;
-    while p < s.len() {
+    for p in at..s.len() {
         if s[p] == 32 {
             return p + 1;
         }
-        p += 1;
     }
-    p
+    at.max(s.len())
 }
 
 // The place of the field that is k after the one at a place.
@@ -89,27 +84,9 @@ pub fn float_at(s: &[u8], at: usize) -> f64
     ensures { result ≡ float_at s.now at }
 {
     match scan_digits::read_hex(s, at) {
-        Number::Is(bits, _) => scan_digits::of_bits(bits),
-        Number::Wrong(_) => 0.0 / 0.0,
+        Ok((bits, _)) => scan_digits::of_bits(bits),
+        Err(_) => 0.0 / 0.0,
     }
-}
-
-fn is_float(s: &[u8], at: usize) -> bool {
-    match scan_digits::read_hex(s, at) {
-        Number::Is(_, _) => true,
-        Number::Wrong(_) => false,
-    }
-}
-
-// The place after the float at a place and the comma behind it, or the end of the text.
-fn after_float(s: &[u8], at: usize) -> usize {
-    let Number::Is(_, p) = scan_digits::read_hex(s, at) else {
-        return s.len();
-    };
-    let Place::Next(q) = scan::read_bytes(s, p, b",") else {
-        return s.len();
-    };
-    q
 }
 
 // The number at a place; 0 where none stands there.
@@ -117,15 +94,18 @@ pub fn number_at(s: &[u8], at: usize) -> u64
     ensures { result ≡ number_at s.now at }
 {
     match scan_digits::read_decimal(s, at) {
-        Number::Is(n, _) => n,
-        Number::Wrong(_) => 0,
+        Ok((n, _)) => n,
+        Err(_) => 0,
     }
 }
 
-fn is_number(s: &[u8], at: usize) -> bool {
-    match scan_digits::read_decimal(s, at) {
-        Number::Is(_, _) => true,
-        Number::Wrong(_) => false,
+// The place after the comma at a place, or the end of the text.
+fn after_comma(s: &[u8], at: usize) -> usize
+    ensures { result ≡ after_comma s.now (read_bytes (44 ∷ []) (drop at s.now) at) }
+{
+    match scan::read_bytes(s, at, b",") {
+        Ok(p) => p,
+        Err(_) => s.len(),
     }
 }
 
@@ -133,13 +113,10 @@ fn is_number(s: &[u8], at: usize) -> bool {
 fn after_number(s: &[u8], at: usize) -> usize
     ensures { result ≡ after_member s.now (read_decimal (drop at s.now) at) }
 {
-    let Number::Is(_, p) = scan_digits::read_decimal(s, at) else {
-        return s.len();
-    };
-    let Place::Next(q) = scan::read_bytes(s, p, b",") else {
-        return s.len();
-    };
-    q
+    match scan_digits::read_decimal(s, at) {
+        Ok((_, p)) => after_comma(s, p),
+        Err(_) => s.len(),
+    }
 }
 
 // The place of the member that is k after the one at a place, in a list of numbers.
@@ -173,137 +150,77 @@ fn held_at(s: &[u8], at: usize, most: usize) -> usize
     if n <= most { n } else { most }
 }
 
-// How many bytes of a buffer are lent: the number at a place. Both parts are said so that lending
+// How many places of a buffer are lent: the number at a place. Both parts are said so that lending
 // `&mut buf[..n]` asks for no proof.
-pub fn bytes_room(s: &[u8], at: usize, buf: &[u8]) -> usize
+pub fn room<T>(s: &[u8], at: usize, buf: &[T]) -> usize
     ensures { (result ≤ length buf.now) × (result ≡ length (take result buf.now)) }
 {
     held_at(s, at, buf.len())
 }
 
-// The same of floats.
-pub fn floats_room(s: &[u8], at: usize, buf: &[f64]) -> usize
-    ensures { (result ≤ length buf.now) × (result ≡ length (take result buf.now)) }
-{
-    held_at(s, at, buf.len())
+// What can stand in a list.
+pub trait Listed: Copy {
+    // The member at a place, and the place after its text; none where no such text stands there.
+    fn read(s: &[u8], at: usize) -> Option<(Self, usize)>;
 }
 
-// The same of u32.
-pub fn u32s_room(s: &[u8], at: usize, buf: &[u32]) -> usize
-    ensures { (result ≤ length buf.now) × (result ≡ length (take result buf.now)) }
-{
-    held_at(s, at, buf.len())
-}
-
-// The same of words.
-pub fn words_room(s: &[u8], at: usize, buf: &[u64]) -> usize
-    ensures { (result ≤ length buf.now) × (result ≡ length (take result buf.now)) }
-{
-    held_at(s, at, buf.len())
-}
-
-// Reads the list of floats at a place, as many as there is room for, and says how many they are.
-pub fn floats_at(s: &[u8], at: usize, out: &mut [f64]) -> usize
-    ensures { (result ≤ length out.new) × (result ≡ length (take result out.new)) }
-{
-    let mut p = at;
-    let mut n = 0usize;
-    while n < out.len() {
-        if !is_float(s, p) {
-            return n;
-        }
-        out[n] = float_at(s, p);
-        p = after_float(s, p);
-        n += 1;
+impl Listed for f64 {
+    fn read(s: &[u8], at: usize) -> Option<(f64, usize)> {
+        let (bits, p) = scan_digits::read_hex(s, at).ok()?;
+        Some((scan_digits::of_bits(bits), p))
     }
-    n
 }
 
-// The same of bytes.
-pub fn bytes_at(s: &[u8], at: usize, out: &mut [u8]) -> usize
-    ensures { (result ≤ length out.new) × (result ≡ length (take result out.new)) }
-{
-    let mut p = at;
-    let mut n = 0usize;
-    while n < out.len() {
-        if !is_number(s, p) {
-            return n;
-        }
-        out[n] = byte_at(s, p);
-        p = after_number(s, p);
-        n += 1;
+// A word stands there by its 16 digits.
+impl Listed for u64 {
+    fn read(s: &[u8], at: usize) -> Option<(u64, usize)> {
+        scan_digits::read_hex(s, at).ok()
     }
-    n
 }
 
-// The same of u32.
-pub fn u32s_at(s: &[u8], at: usize, out: &mut [u32]) -> usize
-    ensures { (result ≤ length out.new) × (result ≡ length (take result out.new)) }
-{
-    let mut p = at;
-    let mut n = 0usize;
-    while n < out.len() {
-        if !is_number(s, p) {
-            return n;
-        }
-        out[n] = word_at(s, p);
-        p = after_number(s, p);
-        n += 1;
+// An id stands there by the 16 digits of its two's complement.
+impl Listed for i64 {
+    fn read(s: &[u8], at: usize) -> Option<(i64, usize)> {
+        let (bits, p) = scan_digits::read_hex(s, at).ok()?;
+        Some((id_of(bits), p))
     }
-    n
 }
 
-// The id at a place, by the 16 digits of its two's complement; 0 where none stands there.
-fn id_at(s: &[u8], at: usize) -> i64 {
-    let Number::Is(bits, _) = scan_digits::read_hex(s, at) else {
-        return 0;
-    };
+impl Listed for u8 {
+    fn read(s: &[u8], at: usize) -> Option<(u8, usize)> {
+        let (n, p) = scan_digits::read_decimal(s, at).ok()?;
+        Some(((n % 256) as u8, p))
+    }
+}
+
+impl Listed for u32 {
+    fn read(s: &[u8], at: usize) -> Option<(u32, usize)> {
+        let (n, p) = scan_digits::read_decimal(s, at).ok()?;
+        Some(((n % 4294967296) as u32, p))
+    }
+}
+
+// The id of a pattern of bits, its two's complement.
+fn id_of(bits: u64) -> i64 {
     if bits < 0x8000_0000_0000_0000 {
         return bits as i64;
     }
     -1 - ((0xffff_ffff_ffff_ffff - bits) as i64)
 }
 
-// The same of ids.
-pub fn ids_at(s: &[u8], at: usize, out: &mut [i64]) -> usize
+// Reads the list at a place, as many members as there is room for, and says how many they are.
+pub fn list_at<T: Listed>(s: &[u8], at: usize, out: &mut [T]) -> usize
     ensures { (result ≤ length out.new) × (result ≡ length (take result out.new)) }
 {
     let mut p = at;
-    let mut n = 0usize;
-    while n < out.len() {
-        if !is_float(s, p) {
+    for n in 0..out.len() {
+        let Some((member, end)) = T::read(s, p) else {
             return n;
-        }
-        out[n] = id_at(s, p);
-        p = after_float(s, p);
-        n += 1;
+        };
+        out[n] = member;
+        p = after_comma(s, end);
     }
-    n
-}
-
-// The word at a place, by its 16 digits; 0 where none stands there.
-fn bits_at(s: &[u8], at: usize) -> u64 {
-    match scan_digits::read_hex(s, at) {
-        Number::Is(bits, _) => bits,
-        Number::Wrong(_) => 0,
-    }
-}
-
-// The words of a list that stands at a place, as many as there is room for.
-pub fn words_at(s: &[u8], at: usize, out: &mut [u64]) -> usize
-    ensures { (result ≤ length out.new) × (result ≡ length (take result out.new)) }
-{
-    let mut p = at;
-    let mut n = 0usize;
-    while n < out.len() {
-        if !is_float(s, p) {
-            return n;
-        }
-        out[n] = bits_at(s, p);
-        p = after_float(s, p);
-        n += 1;
-    }
-    n
+    out.len()
 }
 
 // ---- answers
@@ -371,9 +288,9 @@ pub fn print_bytes<W: Write>(out: &mut W, list: &[u8]) -> io::Result<()>
 {
     print_space(out)?;
     print_empty(out, list.len())?;
-    for i in 0..list.len() {
+    for (i, b) in list.iter().enumerate() {
         print_comma(out, i)?;
-        print_number(out, wide(list[i]))?;
+        print_number(out, wide(*b))?;
     }
     Ok(())
 }
@@ -389,9 +306,9 @@ pub fn print_u32s<W: Write>(out: &mut W, list: &[u32]) -> io::Result<()>
 {
     print_space(out)?;
     print_empty(out, list.len())?;
-    for i in 0..list.len() {
+    for (i, n) in list.iter().enumerate() {
         print_comma(out, i)?;
-        print_number(out, wide_u32(list[i]))?;
+        print_number(out, wide_u32(*n))?;
     }
     Ok(())
 }
@@ -401,9 +318,9 @@ pub fn print_words<W: Write>(out: &mut W, list: &[u64]) -> io::Result<()>
 {
     print_space(out)?;
     print_empty(out, list.len())?;
-    for i in 0..list.len() {
+    for (i, n) in list.iter().enumerate() {
         print_comma(out, i)?;
-        print_number(out, list[i])?;
+        print_number(out, *n)?;
     }
     Ok(())
 }
@@ -421,9 +338,9 @@ pub fn print_floats<W: Write>(out: &mut W, list: &[f64]) -> io::Result<()>
 {
     print_space(out)?;
     print_empty(out, list.len())?;
-    for i in 0..list.len() {
+    for (i, x) in list.iter().enumerate() {
         print_comma(out, i)?;
-        print_float(out, list[i])?;
+        print_float(out, *x)?;
     }
     Ok(())
 }

@@ -4,7 +4,6 @@
 
 ghost use Rattle.std.specs.Prelude.{◌≡◌, length};
 
-use scan::Place;
 use std::io;
 use std::io::{Stdout, Write};
 
@@ -41,7 +40,7 @@ fn fit_cd_matrix_6(
 ) -> io::Result<()> {
     let pattern = scan_digits::of_bits(0xa5a5a5a5a5a5a5a5);
     let mut cd = [pattern; 16];
-    let room = cases::floats_room(s, cases::field(s, at, 5), &cd);
+    let room = cases::room(s, cases::field(s, at, 5), &cd);
     call_fit(out, px, py, xi, eta, mask, &mut cd[..room])
 }
 
@@ -71,9 +70,9 @@ fn fit_cd_weighted(
 ) -> io::Result<()> {
     let pattern = scan_digits::of_bits(0xa5a5a5a5a5a5a5a5);
     let mut weights = [0.0; 101];
-    let n = cases::floats_at(s, cases::field(s, at, 5), &mut weights);
+    let n = cases::list_at(s, cases::field(s, at, 5), &mut weights);
     let mut cd = [pattern; 16];
-    let room = cases::floats_room(s, cases::field(s, at, 6), &cd);
+    let room = cases::room(s, cases::field(s, at, 6), &cd);
     call_weighted(out, px, py, xi, eta, mask, &weights[..n], &mut cd[..room])
 }
 
@@ -103,9 +102,9 @@ fn compute_pixel_errors(
 ) -> io::Result<()> {
     let pattern = scan_digits::of_bits(0xa5a5a5a5a5a5a5a5);
     let mut cd = [0.0; 16];
-    let n = cases::floats_at(s, cases::field(s, at, 5), &mut cd);
+    let n = cases::list_at(s, cases::field(s, at, 5), &mut cd);
     let mut errors = [pattern; 101];
-    let room = cases::floats_room(s, cases::field(s, at, 6), &errors);
+    let room = cases::room(s, cases::field(s, at, 6), &errors);
     call_errors(out, px, py, xi, eta, mask, &cd[..n], &mut errors[..room])
 }
 
@@ -151,14 +150,14 @@ fn compute_residuals(
 ) -> io::Result<()> {
     let pattern = scan_digits::of_bits(0xa5a5a5a5a5a5a5a5);
     let mut wcs = [0.0; 16];
-    let n = cases::floats_at(s, cases::field(s, at, 4), &mut wcs);
+    let n = cases::list_at(s, cases::field(s, at, 4), &mut wcs);
     let mut x = [pattern; 101];
     let mut y = [pattern; 101];
     let mut all = [pattern; 101];
     let rooms = cases::field(s, at, 5);
-    let a = cases::floats_room(s, rooms, &x);
-    let b = cases::floats_room(s, cases::member(s, rooms, 1), &y);
-    let c = cases::floats_room(s, cases::member(s, rooms, 2), &all);
+    let a = cases::room(s, rooms, &x);
+    let b = cases::room(s, cases::member(s, rooms, 1), &y);
+    let c = cases::room(s, cases::member(s, rooms, 2), &all);
     call_residuals(
         out,
         px,
@@ -183,7 +182,7 @@ fn print_rms(out: &mut Stdout, number: u32, rms: f64) -> io::Result<()> {
 
 fn rms_error(out: &mut Stdout, s: &[u8], at: usize) -> io::Result<()> {
     let mut errors = [0.0; 101];
-    let n = cases::floats_at(s, at, &mut errors);
+    let n = cases::list_at(s, at, &mut errors);
     let mut rms = scan_digits::of_bits(0xa5a5a5a5a5a5a5a5);
     let number = errors_face::rms_error(&errors[..n], &mut rms);
     print_rms(out, number, rms)
@@ -192,8 +191,8 @@ fn rms_error(out: &mut Stdout, s: &[u8], at: usize) -> io::Result<()> {
 fn weighted_rms_error(out: &mut Stdout, s: &[u8], at: usize) -> io::Result<()> {
     let mut errors = [0.0; 101];
     let mut weights = [0.0; 102];
-    let n = cases::floats_at(s, at, &mut errors);
-    let m = cases::floats_at(s, cases::field(s, at, 1), &mut weights);
+    let n = cases::list_at(s, at, &mut errors);
+    let m = cases::list_at(s, cases::field(s, at, 1), &mut weights);
     let mut rms = scan_digits::of_bits(0xa5a5a5a5a5a5a5a5);
     let number = errors_face::weighted_rms_error(&errors[..n], &weights[..m], &mut rms);
     print_rms(out, number, rms)
@@ -209,10 +208,10 @@ fn solve_normal_equations(out: &mut Stdout, s: &[u8], at: usize) -> io::Result<(
     let mut a = [0.0; 3025];
     let mut b = [0.0; 101];
     let mut x = [pattern; 64];
-    let p = cases::floats_at(s, at, &mut a);
-    let q = cases::floats_at(s, cases::field(s, at, 1), &mut b);
+    let p = cases::list_at(s, at, &mut a);
+    let q = cases::list_at(s, cases::field(s, at, 1), &mut b);
     let n = cases::word_at(s, cases::field(s, at, 2));
-    let room = cases::floats_room(s, cases::field(s, at, 3), &x);
+    let room = cases::room(s, cases::field(s, at, 3), &x);
     call_solve(out, &a[..p], &b[..q], n, &mut x[..room])
 }
 
@@ -230,7 +229,7 @@ fn answer_masked(
     eta: &[f64],
 ) -> io::Result<()> {
     let mut mask = [0u8; 101];
-    let n = cases::bytes_at(s, cases::field(s, at, 4), &mut mask);
+    let n = cases::list_at(s, cases::field(s, at, 4), &mut mask);
     if call == 0 {
         return fit_cd_matrix_6(out, s, at, px, py, xi, eta, &mask[..n]);
     }
@@ -263,34 +262,34 @@ fn read_rows(out: &mut Stdout, s: &[u8], at: usize, call: u8) -> io::Result<()> 
     let mut py = [0.0; 101];
     let mut xi = [0.0; 101];
     let mut eta = [0.0; 101];
-    let a = cases::floats_at(s, at, &mut px);
-    let b = cases::floats_at(s, cases::field(s, at, 1), &mut py);
-    let c = cases::floats_at(s, cases::field(s, at, 2), &mut xi);
-    let d = cases::floats_at(s, cases::field(s, at, 3), &mut eta);
+    let a = cases::list_at(s, at, &mut px);
+    let b = cases::list_at(s, cases::field(s, at, 1), &mut py);
+    let c = cases::list_at(s, cases::field(s, at, 2), &mut xi);
+    let d = cases::list_at(s, cases::field(s, at, 3), &mut eta);
     answer_rows(out, s, at, call, &px[..a], &py[..b], &xi[..c], &eta[..d])
 }
 
 // Answers the case that starts at a place; a line that is no case has the answer "?".
 fn answer(out: &mut Stdout, s: &[u8], at: usize) -> io::Result<()> {
-    if let Place::Next(p) = scan::read_bytes(s, at, b"fit_cd_matrix_6 ") {
+    if let Ok(p) = scan::read_bytes(s, at, b"fit_cd_matrix_6 ") {
         return read_rows(out, s, p, 0);
     }
-    if let Place::Next(p) = scan::read_bytes(s, at, b"fit_cd_weighted ") {
+    if let Ok(p) = scan::read_bytes(s, at, b"fit_cd_weighted ") {
         return read_rows(out, s, p, 1);
     }
-    if let Place::Next(p) = scan::read_bytes(s, at, b"compute_pixel_errors ") {
+    if let Ok(p) = scan::read_bytes(s, at, b"compute_pixel_errors ") {
         return read_rows(out, s, p, 2);
     }
-    if let Place::Next(p) = scan::read_bytes(s, at, b"compute_residuals ") {
+    if let Ok(p) = scan::read_bytes(s, at, b"compute_residuals ") {
         return read_rows(out, s, p, 3);
     }
-    if let Place::Next(p) = scan::read_bytes(s, at, b"rms_error ") {
+    if let Ok(p) = scan::read_bytes(s, at, b"rms_error ") {
         return rms_error(out, s, p);
     }
-    if let Place::Next(p) = scan::read_bytes(s, at, b"weighted_rms_error ") {
+    if let Ok(p) = scan::read_bytes(s, at, b"weighted_rms_error ") {
         return weighted_rms_error(out, s, p);
     }
-    if let Place::Next(p) = scan::read_bytes(s, at, b"solve_normal_equations ") {
+    if let Ok(p) = scan::read_bytes(s, at, b"solve_normal_equations ") {
         return solve_normal_equations(out, s, p);
     }
     out.write_all(b"?\n")
@@ -299,6 +298,7 @@ fn answer(out: &mut Stdout, s: &[u8], at: usize) -> io::Result<()> {
 // Answers each line.
 fn answer_all(out: &mut Stdout, s: &[u8]) -> io::Result<()> {
     let mut at = 0;
+    // Where a line ends the next one starts.
     while at < s.len() {
         answer(out, s, at)?;
         let end = scan::line_end(s, at);

@@ -2,31 +2,23 @@
 // standard output, in the form of oracle/README.md.
 #![tactic(auto)]
 
-use scan::Place;
-use scan_digits::Number;
+use scan::Wrong;
 use std::io;
 use std::io::{Stdout, Write};
 
 // The float at a place; NaN where no 16 digits stand there.
 fn float_at(s: &[u8], at: usize) -> f64 {
     match scan_digits::read_hex(s, at) {
-        Number::Is(bits, _) => scan_digits::of_bits(bits),
-        Number::Wrong(_) => 0.0 / 0.0,
+        Ok((bits, _)) => scan_digits::of_bits(bits),
+        Err(_) => 0.0 / 0.0,
     }
 }
 
-// The number after a float and a space at a place; 0 where none stands there.
-fn number_after(s: &[u8], at: usize) -> u64 {
-    let Number::Is(_, p) = scan_digits::read_hex(s, at) else {
-        return 0;
-    };
-    let Place::Next(q) = scan::read_bytes(s, p, b" ") else {
-        return 0;
-    };
-    match scan_digits::read_decimal(s, q) {
-        Number::Is(n, _) => n,
-        Number::Wrong(_) => 0,
-    }
+// The number after a float and a space at a place.
+fn number_after(s: &[u8], at: usize) -> Result<u64, Wrong> {
+    let (_, p) = scan_digits::read_hex(s, at)?;
+    let q = scan::read_bytes(s, p, b" ")?;
+    Ok(scan_digits::read_decimal(s, q)?.0)
 }
 
 fn print_float(out: &mut Stdout, x: f64) -> io::Result<()> {
@@ -44,17 +36,17 @@ fn print_signed(out: &mut Stdout, n: i32) -> io::Result<()> {
 
 // Answers the case that starts at a place; a line that is no case has the answer "?".
 fn answer(out: &mut Stdout, s: &[u8], at: usize) -> io::Result<()> {
-    if let Place::Next(p) = scan::read_bytes(s, at, b"magnitude ") {
+    if let Ok(p) = scan::read_bytes(s, at, b"magnitude ") {
         return print_float(out, floats::magnitude(float_at(s, p)));
     }
-    if let Place::Next(p) = scan::read_bytes(s, at, b"floor ") {
+    if let Ok(p) = scan::read_bytes(s, at, b"floor ") {
         return print_signed(out, floats::floor(float_at(s, p)));
     }
-    if let Place::Next(p) = scan::read_bytes(s, at, b"root ") {
+    if let Ok(p) = scan::read_bytes(s, at, b"root ") {
         return print_float(out, root::root(float_at(s, p)));
     }
-    if let Place::Next(p) = scan::read_bytes(s, at, b"power ") {
-        let exponent = (number_after(s, p) % 4294967296) as u32;
+    if let Ok(p) = scan::read_bytes(s, at, b"power ") {
+        let exponent = (number_after(s, p).unwrap_or(0) % 4294967296) as u32;
         return print_float(out, floats::power(float_at(s, p), exponent));
     }
     out.write_all(b"?\n")
@@ -63,6 +55,7 @@ fn answer(out: &mut Stdout, s: &[u8], at: usize) -> io::Result<()> {
 // Answers each line.
 fn answer_all(out: &mut Stdout, s: &[u8]) -> io::Result<()> {
     let mut at = 0;
+    // Where a line ends the next one starts.
     while at < s.len() {
         answer(out, s, at)?;
         let end = scan::line_end(s, at);

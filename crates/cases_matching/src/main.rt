@@ -3,7 +3,6 @@
 // filled with the byte a5, as there.
 #![tactic(auto)]
 
-use scan::Place;
 use std::io;
 use std::io::{Stdout, Write};
 
@@ -12,8 +11,8 @@ use std::io::{Stdout, Write};
 fn build_hash_index(out: &mut Stdout, s: &[u8], at: usize) -> io::Result<()> {
     let mut hashes = [0.0; 1024];
     let mut table = [0xa5a5a5a5a5a5a5a5u64; 1024];
-    let n = cases::floats_at(s, at, &mut hashes);
-    let room = cases::words_room(s, cases::field(s, at, 1), &table);
+    let n = cases::list_at(s, at, &mut hashes);
+    let room = cases::room(s, cases::field(s, at, 1), &table);
     call_build_hash_index(out, &hashes[..n], &mut table[..room])
 }
 
@@ -56,7 +55,7 @@ fn lend_find_matches(
     others: &[f64],
 ) -> io::Result<()> {
     let mut matches = [0xa5u8; 4096];
-    let room = cases::bytes_room(s, cases::field(s, at, 4), &matches);
+    let room = cases::room(s, cases::field(s, at, 4), &matches);
     call_find_matches(out, places, hashes, catalogue, others, &mut matches[..room])
 }
 
@@ -87,8 +86,8 @@ fn lend_find_matches_indexed(
 ) -> io::Result<()> {
     let mut table = [0u64; 1024];
     let mut matches = [0xa5u8; 4096];
-    let n = cases::words_at(s, cases::field(s, at, 4), &mut table);
-    let room = cases::bytes_room(s, cases::field(s, at, 5), &matches);
+    let n = cases::list_at(s, cases::field(s, at, 4), &mut table);
+    let room = cases::room(s, cases::field(s, at, 5), &matches);
     return call_find_matches_indexed(
         out,
         places,
@@ -123,10 +122,10 @@ fn read_quads(out: &mut Stdout, s: &[u8], at: usize, indexed: bool) -> io::Resul
     let mut hashes = [0.0; 1024];
     let mut catalogue = [0u8; 1024];
     let mut others = [0.0; 1024];
-    let a = cases::bytes_at(s, at, &mut places);
-    let b = cases::floats_at(s, cases::field(s, at, 1), &mut hashes);
-    let c = cases::bytes_at(s, cases::field(s, at, 2), &mut catalogue);
-    let d = cases::floats_at(s, cases::field(s, at, 3), &mut others);
+    let a = cases::list_at(s, at, &mut places);
+    let b = cases::list_at(s, cases::field(s, at, 1), &mut hashes);
+    let c = cases::list_at(s, cases::field(s, at, 2), &mut catalogue);
+    let d = cases::list_at(s, cases::field(s, at, 3), &mut others);
     answer_quads(
         out,
         s,
@@ -210,12 +209,12 @@ fn lend_extract_pairs(
     let mut votes = [0xa5a5a5a5u32; 101];
     let mut snr = [pattern; 101];
     let rooms = cases::field(s, at, 9);
-    let a = cases::floats_room(s, rooms, &px);
-    let b = cases::floats_room(s, cases::member(s, rooms, 1), &py);
-    let c = cases::floats_room(s, cases::member(s, rooms, 2), &ra);
-    let d = cases::floats_room(s, cases::member(s, rooms, 3), &dec);
-    let e = cases::u32s_room(s, cases::member(s, rooms, 4), &votes);
-    let f = cases::floats_room(s, cases::member(s, rooms, 5), &snr);
+    let a = cases::room(s, rooms, &px);
+    let b = cases::room(s, cases::member(s, rooms, 1), &py);
+    let c = cases::room(s, cases::member(s, rooms, 2), &ra);
+    let d = cases::room(s, cases::member(s, rooms, 3), &dec);
+    let e = cases::room(s, cases::member(s, rooms, 4), &votes);
+    let f = cases::room(s, cases::member(s, rooms, 5), &snr);
     call_extract_pairs(
         out,
         matches,
@@ -251,9 +250,9 @@ fn with_detections(
     let mut xs = [0.0; 101];
     let mut ys = [0.0; 101];
     let mut snrs = [0.0; 101];
-    let a = cases::floats_at(s, cases::field(s, at, 1), &mut xs);
-    let b = cases::floats_at(s, cases::field(s, at, 2), &mut ys);
-    let c = cases::floats_at(s, cases::field(s, at, 3), &mut snrs);
+    let a = cases::list_at(s, cases::field(s, at, 1), &mut xs);
+    let b = cases::list_at(s, cases::field(s, at, 2), &mut ys);
+    let c = cases::list_at(s, cases::field(s, at, 3), &mut snrs);
     lend_extract_pairs(
         out,
         s,
@@ -282,9 +281,9 @@ fn with_results(
     let mut results = [0i64; 101];
     let mut ras = [0.0; 101];
     let mut decs = [0.0; 101];
-    let a = cases::ids_at(s, cases::field(s, at, 6), &mut results);
-    let b = cases::floats_at(s, cases::field(s, at, 7), &mut ras);
-    let c = cases::floats_at(s, cases::field(s, at, 8), &mut decs);
+    let a = cases::list_at(s, cases::field(s, at, 6), &mut results);
+    let b = cases::list_at(s, cases::field(s, at, 7), &mut ras);
+    let c = cases::list_at(s, cases::field(s, at, 8), &mut decs);
     with_detections(
         out,
         s,
@@ -302,9 +301,9 @@ fn extract_pairs(out: &mut Stdout, s: &[u8], at: usize) -> io::Result<()> {
     let mut matches = [0u8; 256];
     let mut images = [0u32; 101];
     let mut catalogue = [0i64; 101];
-    let a = cases::bytes_at(s, at, &mut matches);
-    let b = cases::u32s_at(s, cases::field(s, at, 4), &mut images);
-    let c = cases::ids_at(s, cases::field(s, at, 5), &mut catalogue);
+    let a = cases::list_at(s, at, &mut matches);
+    let b = cases::list_at(s, cases::field(s, at, 4), &mut images);
+    let c = cases::list_at(s, cases::field(s, at, 5), &mut catalogue);
     with_results(out, s, at, &matches[..a], &images[..b], &catalogue[..c])
 }
 
@@ -321,7 +320,7 @@ fn fit_affine_3pt(
 ) -> io::Result<()> {
     let pattern = scan_digits::of_bits(0xa5a5a5a5a5a5a5a5);
     let mut affine = [pattern; 16];
-    let room = cases::floats_room(s, cases::field(s, at, 7), &affine);
+    let room = cases::room(s, cases::field(s, at, 7), &affine);
     call_fit_affine_3pt(out, s, at, px, py, xi, eta, &mut affine[..room])
 }
 
@@ -354,7 +353,7 @@ fn count_affine_inliers(
     eta: &[f64],
 ) -> io::Result<()> {
     let mut affine = [0.0; 16];
-    let n = cases::floats_at(s, cases::field(s, at, 4), &mut affine);
+    let n = cases::list_at(s, cases::field(s, at, 4), &mut affine);
     let threshold = cases::float_at(s, cases::field(s, at, 5));
     let mut inliers = 0xa5a5a5a5a5a5a5a5u64;
     let number = verify_face::count_affine_inliers(
@@ -413,34 +412,34 @@ fn read_rows(out: &mut Stdout, s: &[u8], at: usize, call: u8) -> io::Result<()> 
     let mut py = [0.0; 101];
     let mut xi = [0.0; 101];
     let mut eta = [0.0; 101];
-    let a = cases::floats_at(s, at, &mut px);
-    let b = cases::floats_at(s, cases::field(s, at, 1), &mut py);
-    let c = cases::floats_at(s, cases::field(s, at, 2), &mut xi);
-    let d = cases::floats_at(s, cases::field(s, at, 3), &mut eta);
+    let a = cases::list_at(s, at, &mut px);
+    let b = cases::list_at(s, cases::field(s, at, 1), &mut py);
+    let c = cases::list_at(s, cases::field(s, at, 2), &mut xi);
+    let d = cases::list_at(s, cases::field(s, at, 3), &mut eta);
     answer_rows(out, s, at, call, &px[..a], &py[..b], &xi[..c], &eta[..d])
 }
 
 // Answers the case that starts at a place; a line that is no case has the answer "?".
 fn answer(out: &mut Stdout, s: &[u8], at: usize) -> io::Result<()> {
-    if let Place::Next(p) = scan::read_bytes(s, at, b"find_matches ") {
+    if let Ok(p) = scan::read_bytes(s, at, b"find_matches ") {
         return read_quads(out, s, p, false);
     }
-    if let Place::Next(p) = scan::read_bytes(s, at, b"build_hash_index ") {
+    if let Ok(p) = scan::read_bytes(s, at, b"build_hash_index ") {
         return build_hash_index(out, s, p);
     }
-    if let Place::Next(p) = scan::read_bytes(s, at, b"find_matches_indexed ") {
+    if let Ok(p) = scan::read_bytes(s, at, b"find_matches_indexed ") {
         return read_quads(out, s, p, true);
     }
-    if let Place::Next(p) = scan::read_bytes(s, at, b"extract_pairs ") {
+    if let Ok(p) = scan::read_bytes(s, at, b"extract_pairs ") {
         return extract_pairs(out, s, p);
     }
-    if let Place::Next(p) = scan::read_bytes(s, at, b"fit_affine_3pt ") {
+    if let Ok(p) = scan::read_bytes(s, at, b"fit_affine_3pt ") {
         return read_rows(out, s, p, 0);
     }
-    if let Place::Next(p) = scan::read_bytes(s, at, b"count_affine_inliers ") {
+    if let Ok(p) = scan::read_bytes(s, at, b"count_affine_inliers ") {
         return read_rows(out, s, p, 1);
     }
-    if let Place::Next(p) = scan::read_bytes(s, at, b"verify_pairs ") {
+    if let Ok(p) = scan::read_bytes(s, at, b"verify_pairs ") {
         return read_rows(out, s, p, 2);
     }
     out.write_all(b"?\n")

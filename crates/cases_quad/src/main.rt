@@ -4,7 +4,6 @@
 
 ghost use Rattle.std.specs.Prelude.{◌≡◌, length};
 
-use scan::Place;
 use std::io;
 use std::io::{Stdout, Write};
 
@@ -64,11 +63,11 @@ fn call_find_spine(
 fn find_spine(out: &mut Stdout, s: &[u8], at: usize) -> io::Result<()> {
     let mut xs = [0.0; 101];
     let mut ys = [0.0; 101];
-    let n = cases::floats_at(s, at, &mut xs);
-    let m = cases::floats_at(s, cases::field(s, at, 1), &mut ys);
+    let n = cases::list_at(s, at, &mut xs);
+    let m = cases::list_at(s, cases::field(s, at, 1), &mut ys);
     let f = four_at(s, cases::field(s, at, 2));
     let mut spine = [0xa5u8; 16];
-    let room = cases::bytes_room(s, cases::field(s, at, 6), &spine);
+    let room = cases::room(s, cases::field(s, at, 6), &spine);
     call_find_spine(out, &xs[..n], &ys[..m], f, &mut spine[..room])
 }
 
@@ -87,7 +86,7 @@ fn call_orient_spine(out: &mut Stdout, s: &[u8], at: usize, pair: &mut [u8]) -> 
 
 fn orient_spine(out: &mut Stdout, s: &[u8], at: usize) -> io::Result<()> {
     let mut pair = [0xa5u8; 16];
-    let room = cases::bytes_room(s, cases::field(s, at, 6), &pair);
+    let room = cases::room(s, cases::field(s, at, 6), &pair);
     call_orient_spine(out, s, at, &mut pair[..room])
 }
 
@@ -109,14 +108,14 @@ fn call_normalize(
 fn normalize_quad_ordered(out: &mut Stdout, s: &[u8], at: usize) -> io::Result<()> {
     let mut xs = [0.0; 101];
     let mut ys = [0.0; 101];
-    let n = cases::floats_at(s, at, &mut xs);
-    let m = cases::floats_at(s, cases::field(s, at, 1), &mut ys);
+    let n = cases::list_at(s, at, &mut xs);
+    let m = cases::list_at(s, cases::field(s, at, 1), &mut ys);
     let f = four_at(s, cases::field(s, at, 2));
     let pattern = scan_digits::of_bits(0xa5a5a5a5a5a5a5a5);
     let mut hash = [pattern; 16];
     let mut places = [0xa5u8; 16];
-    let h = cases::floats_room(s, cases::field(s, at, 6), &hash);
-    let p = cases::bytes_room(s, cases::field(s, at, 7), &places);
+    let h = cases::room(s, cases::field(s, at, 6), &hash);
+    let p = cases::room(s, cases::field(s, at, 7), &places);
     call_normalize(out, &xs[..n], &ys[..m], f, &mut hash[..h], &mut places[..p])
 }
 
@@ -129,7 +128,7 @@ fn call_combinations_4(out: &mut Stdout, n: u32, state: &mut [u8]) -> io::Result
 
 fn combinations_4(out: &mut Stdout, s: &[u8], at: usize) -> io::Result<()> {
     let mut state = [0xa5u8; 16];
-    let room = cases::bytes_room(s, cases::field(s, at, 1), &state);
+    let room = cases::room(s, cases::field(s, at, 1), &state);
     call_combinations_4(out, cases::word_at(s, at), &mut state[..room])
 }
 
@@ -151,9 +150,9 @@ fn call_combinations_4_next(
 
 fn combinations_4_next(out: &mut Stdout, s: &[u8], at: usize) -> io::Result<()> {
     let mut state = [0u8; 8];
-    let n = cases::bytes_at(s, cases::field(s, at, 1), &mut state);
+    let n = cases::list_at(s, cases::field(s, at, 1), &mut state);
     let mut places = [0xa5u8; 16];
-    let room = cases::bytes_room(s, cases::field(s, at, 2), &places);
+    let room = cases::room(s, cases::field(s, at, 2), &places);
     call_combinations_4_next(
         out,
         cases::word_at(s, at),
@@ -194,16 +193,16 @@ fn lend_neighbor_quads(
     let mut hashes = [pattern; 4096];
     let k = cases::word_at(s, cases::field(s, at, 2));
     let least = cases::float_at(s, cases::field(s, at, 3));
-    let p = cases::bytes_room(s, cases::field(s, at, 4), &places);
-    let h = cases::floats_room(s, cases::field(s, at, 5), &hashes);
+    let p = cases::room(s, cases::field(s, at, 4), &places);
+    let h = cases::room(s, cases::field(s, at, 5), &hashes);
     call_neighbor_quads(out, xs, ys, k, least, &mut places[..p], &mut hashes[..h])
 }
 
 fn neighbor_quads(out: &mut Stdout, s: &[u8], at: usize) -> io::Result<()> {
     let mut xs = [0.0; 101];
     let mut ys = [0.0; 101];
-    let n = cases::floats_at(s, at, &mut xs);
-    let m = cases::floats_at(s, cases::field(s, at, 1), &mut ys);
+    let n = cases::list_at(s, at, &mut xs);
+    let m = cases::list_at(s, cases::field(s, at, 1), &mut ys);
     lend_neighbor_quads(out, s, at, &xs[..n], &ys[..m])
 }
 
@@ -222,7 +221,7 @@ fn call_hash_key_neighbors(out: &mut Stdout, h: Hash, keys: &mut [u64]) -> io::R
 
 fn discrete_hash_key_neighbors(out: &mut Stdout, s: &[u8], at: usize) -> io::Result<()> {
     let mut keys = [0xa5a5a5a5a5a5a5a5u64; 96];
-    let room = cases::words_room(s, cases::field(s, at, 4), &keys);
+    let room = cases::room(s, cases::field(s, at, 4), &keys);
     call_hash_key_neighbors(out, hash_at(s, at), &mut keys[..room])
 }
 
@@ -230,28 +229,28 @@ fn discrete_hash_key_neighbors(out: &mut Stdout, s: &[u8], at: usize) -> io::Res
 
 // Answers the case that starts at a place; a line that is no case has the answer "?".
 fn answer(out: &mut Stdout, s: &[u8], at: usize) -> io::Result<()> {
-    if let Place::Next(p) = scan::read_bytes(s, at, b"find_spine ") {
+    if let Ok(p) = scan::read_bytes(s, at, b"find_spine ") {
         return find_spine(out, s, p);
     }
-    if let Place::Next(p) = scan::read_bytes(s, at, b"orient_spine ") {
+    if let Ok(p) = scan::read_bytes(s, at, b"orient_spine ") {
         return orient_spine(out, s, p);
     }
-    if let Place::Next(p) = scan::read_bytes(s, at, b"normalize_quad_ordered ") {
+    if let Ok(p) = scan::read_bytes(s, at, b"normalize_quad_ordered ") {
         return normalize_quad_ordered(out, s, p);
     }
-    if let Place::Next(p) = scan::read_bytes(s, at, b"combinations_4 ") {
+    if let Ok(p) = scan::read_bytes(s, at, b"combinations_4 ") {
         return combinations_4(out, s, p);
     }
-    if let Place::Next(p) = scan::read_bytes(s, at, b"combinations_4_next ") {
+    if let Ok(p) = scan::read_bytes(s, at, b"combinations_4_next ") {
         return combinations_4_next(out, s, p);
     }
-    if let Place::Next(p) = scan::read_bytes(s, at, b"neighbor_quads ") {
+    if let Ok(p) = scan::read_bytes(s, at, b"neighbor_quads ") {
         return neighbor_quads(out, s, p);
     }
-    if let Place::Next(p) = scan::read_bytes(s, at, b"discrete_hash_key ") {
+    if let Ok(p) = scan::read_bytes(s, at, b"discrete_hash_key ") {
         return discrete_hash_key(out, s, p);
     }
-    if let Place::Next(p) = scan::read_bytes(s, at, b"discrete_hash_key_neighbors ") {
+    if let Ok(p) = scan::read_bytes(s, at, b"discrete_hash_key_neighbors ") {
         return discrete_hash_key_neighbors(out, s, p);
     }
     out.write_all(b"?\n")
@@ -260,6 +259,7 @@ fn answer(out: &mut Stdout, s: &[u8], at: usize) -> io::Result<()> {
 // Answers each line.
 fn answer_all(out: &mut Stdout, s: &[u8]) -> io::Result<()> {
     let mut at = 0;
+    // Where a line ends the next one starts.
     while at < s.len() {
         answer(out, s, at)?;
         let end = scan::line_end(s, at);

@@ -2,7 +2,6 @@
 // in the form of oracle/README.md. A lent output starts filled with the byte a5, as there.
 #![tactic(auto)]
 
-use scan::Place;
 use std::io;
 use std::io::{Stdout, Write};
 
@@ -33,12 +32,12 @@ fn write_record(out: &mut Stdout, s: &[u8], at: usize) -> io::Result<()> {
     let mut sums = [0.0; 16];
     let mut text = [0xa5u8; 1200];
     let rows_used = cases::number_at(s, at);
-    let w = cases::floats_at(s, cases::field(s, at, 1), &mut wcs);
+    let w = cases::list_at(s, cases::field(s, at, 1), &mut wcs);
     let order = cases::word_at(s, cases::field(s, at, 2));
-    let m = cases::floats_at(s, cases::field(s, at, 3), &mut a);
-    let n = cases::floats_at(s, cases::field(s, at, 4), &mut b);
-    let k = cases::floats_at(s, cases::field(s, at, 5), &mut sums);
-    let room = cases::bytes_room(s, cases::field(s, at, 6), &text);
+    let m = cases::list_at(s, cases::field(s, at, 3), &mut a);
+    let n = cases::list_at(s, cases::field(s, at, 4), &mut b);
+    let k = cases::list_at(s, cases::field(s, at, 5), &mut sums);
+    let room = cases::room(s, cases::field(s, at, 6), &text);
     call_record(
         out,
         rows_used,
@@ -95,11 +94,11 @@ fn read_record(out: &mut Stdout, s: &[u8], at: usize) -> io::Result<()> {
     let mut a = [pattern; 64];
     let mut b = [pattern; 64];
     let mut sums = [pattern; 32];
-    let n = cases::bytes_at(s, at, &mut text);
-    let w = cases::floats_room(s, cases::field(s, at, 1), &wcs);
-    let p = cases::floats_room(s, cases::field(s, at, 2), &a);
-    let q = cases::floats_room(s, cases::field(s, at, 3), &b);
-    let r = cases::floats_room(s, cases::field(s, at, 4), &sums);
+    let n = cases::list_at(s, at, &mut text);
+    let w = cases::room(s, cases::field(s, at, 1), &wcs);
+    let p = cases::room(s, cases::field(s, at, 2), &a);
+    let q = cases::room(s, cases::field(s, at, 3), &b);
+    let r = cases::room(s, cases::field(s, at, 4), &sums);
     call_read(
         out,
         &text[..n],
@@ -114,10 +113,10 @@ fn read_record(out: &mut Stdout, s: &[u8], at: usize) -> io::Result<()> {
 
 // Answers the case that starts at a place; a line that is no case has the answer "?".
 fn answer(out: &mut Stdout, s: &[u8], at: usize) -> io::Result<()> {
-    if let Place::Next(p) = scan::read_bytes(s, at, b"write_record ") {
+    if let Ok(p) = scan::read_bytes(s, at, b"write_record ") {
         return write_record(out, s, p);
     }
-    if let Place::Next(p) = scan::read_bytes(s, at, b"read_record ") {
+    if let Ok(p) = scan::read_bytes(s, at, b"read_record ") {
         return read_record(out, s, p);
     }
     out.write_all(b"?\n")

@@ -2,7 +2,6 @@
 // standard output, in the form of oracle/README.md. A lent output starts filled with the byte a5, as there.
 #![tactic(auto)]
 
-use scan::Place;
 use std::io;
 use std::io::{Stdout, Write};
 
@@ -50,11 +49,11 @@ fn ransac_fit(
     eta: &[f64],
 ) -> io::Result<()> {
     let mut votes = [0u32; 101];
-    let n = cases::u32s_at(s, cases::field(s, at, 4), &mut votes);
+    let n = cases::list_at(s, cases::field(s, at, 4), &mut votes);
     let limit = cases::float_at(s, cases::field(s, at, 5));
     let trials = cases::word_at(s, cases::field(s, at, 6));
     let mut mask = [0xa5u8; 128];
-    let room = cases::bytes_room(s, cases::field(s, at, 7), &mask);
+    let room = cases::room(s, cases::field(s, at, 7), &mask);
     call_run(
         out,
         px,
@@ -99,9 +98,9 @@ fn sigma_clip_loop_weighted(
     let mut mask = [0u8; 101];
     let mut cd = [0.0; 16];
     let mut weights = [0.0; 101];
-    let a = cases::bytes_at(s, cases::field(s, at, 4), &mut mask);
-    let b = cases::floats_at(s, cases::field(s, at, 5), &mut cd);
-    let c = cases::floats_at(s, cases::field(s, at, 6), &mut weights);
+    let a = cases::list_at(s, cases::field(s, at, 4), &mut mask);
+    let b = cases::list_at(s, cases::field(s, at, 5), &mut cd);
+    let c = cases::list_at(s, cases::field(s, at, 6), &mut weights);
     call_clip(
         out,
         px,
@@ -122,10 +121,10 @@ fn read_rows(out: &mut Stdout, s: &[u8], at: usize, call: u8) -> io::Result<()> 
     let mut py = [0.0; 101];
     let mut xi = [0.0; 101];
     let mut eta = [0.0; 101];
-    let a = cases::floats_at(s, at, &mut px);
-    let b = cases::floats_at(s, cases::field(s, at, 1), &mut py);
-    let c = cases::floats_at(s, cases::field(s, at, 2), &mut xi);
-    let d = cases::floats_at(s, cases::field(s, at, 3), &mut eta);
+    let a = cases::list_at(s, at, &mut px);
+    let b = cases::list_at(s, cases::field(s, at, 1), &mut py);
+    let c = cases::list_at(s, cases::field(s, at, 2), &mut xi);
+    let d = cases::list_at(s, cases::field(s, at, 3), &mut eta);
     if call == 0 {
         return ransac_fit(out, s, at, &px[..a], &py[..b], &xi[..c], &eta[..d]);
     }
@@ -134,10 +133,10 @@ fn read_rows(out: &mut Stdout, s: &[u8], at: usize, call: u8) -> io::Result<()> 
 
 // Answers the case that starts at a place; a line that is no case has the answer "?".
 fn answer(out: &mut Stdout, s: &[u8], at: usize) -> io::Result<()> {
-    if let Place::Next(p) = scan::read_bytes(s, at, b"ransac_fit ") {
+    if let Ok(p) = scan::read_bytes(s, at, b"ransac_fit ") {
         return read_rows(out, s, p, 0);
     }
-    if let Place::Next(p) = scan::read_bytes(s, at, b"sigma_clip_loop_weighted ") {
+    if let Ok(p) = scan::read_bytes(s, at, b"sigma_clip_loop_weighted ") {
         return read_rows(out, s, p, 1);
     }
     out.write_all(b"?\n")

@@ -4,7 +4,6 @@
 
 ghost use Rattle.std.specs.Prelude.{◌≡◌, length};
 
-use scan::Place;
 use std::io;
 use std::io::{Stdout, Write};
 
@@ -48,9 +47,9 @@ fn lend_lists(
     let mut b = [pattern; 64];
     let mut sums = [pattern; 16];
     let rooms = cases::field(s, at, 7);
-    let p = cases::floats_room(s, rooms, &a);
-    let q = cases::floats_room(s, cases::member(s, rooms, 1), &b);
-    let r = cases::floats_room(s, cases::member(s, rooms, 2), &sums);
+    let p = cases::room(s, rooms, &a);
+    let q = cases::room(s, cases::member(s, rooms, 1), &b);
+    let r = cases::room(s, cases::member(s, rooms, 2), &sums);
     let order = cases::word_at(s, cases::field(s, at, 6));
     call_sip(
         out,
@@ -78,8 +77,8 @@ fn fit_sip(
 ) -> io::Result<()> {
     let mut snr = [0.0; 102];
     let mut wcs = [0.0; 16];
-    let n = cases::floats_at(s, cases::field(s, at, 4), &mut snr);
-    let k = cases::floats_at(s, cases::field(s, at, 5), &mut wcs);
+    let n = cases::list_at(s, cases::field(s, at, 4), &mut snr);
+    let k = cases::list_at(s, cases::field(s, at, 5), &mut wcs);
     lend_lists(out, s, at, px, py, xi, eta, &snr[..n], &wcs[..k])
 }
 
@@ -89,16 +88,16 @@ fn read_rows(out: &mut Stdout, s: &[u8], at: usize) -> io::Result<()> {
     let mut py = [0.0; 102];
     let mut xi = [0.0; 102];
     let mut eta = [0.0; 102];
-    let a = cases::floats_at(s, at, &mut px);
-    let b = cases::floats_at(s, cases::field(s, at, 1), &mut py);
-    let c = cases::floats_at(s, cases::field(s, at, 2), &mut xi);
-    let d = cases::floats_at(s, cases::field(s, at, 3), &mut eta);
+    let a = cases::list_at(s, at, &mut px);
+    let b = cases::list_at(s, cases::field(s, at, 1), &mut py);
+    let c = cases::list_at(s, cases::field(s, at, 2), &mut xi);
+    let d = cases::list_at(s, cases::field(s, at, 3), &mut eta);
     fit_sip(out, s, at, &px[..a], &py[..b], &xi[..c], &eta[..d])
 }
 
 // Answers the case that starts at a place; a line that is no case has the answer "?".
 fn answer(out: &mut Stdout, s: &[u8], at: usize) -> io::Result<()> {
-    if let Place::Next(p) = scan::read_bytes(s, at, b"fit_sip ") {
+    if let Ok(p) = scan::read_bytes(s, at, b"fit_sip ") {
         return read_rows(out, s, p);
     }
     out.write_all(b"?\n")
@@ -107,6 +106,7 @@ fn answer(out: &mut Stdout, s: &[u8], at: usize) -> io::Result<()> {
 // Answers each line.
 fn answer_all(out: &mut Stdout, s: &[u8]) -> io::Result<()> {
     let mut at = 0;
+    // Where a line ends the next one starts.
     while at < s.len() {
         answer(out, s, at)?;
         let end = scan::line_end(s, at);

@@ -34,10 +34,8 @@ pub fn put_hex(buf: &mut [u8], at: usize, n: u64) -> usize
     requires { Room buf.old at (hex_from 16 n) }
     ensures { Put buf.old at (hex_from 16 n) result buf.new }
 {
-    let mut k = 16u64;
     let mut p = at;
-    while 0 < k {
-        k -= 1;
+    for k in (0..16u64).rev() {
         buf[p] = hex_digit((n >> (4 * k)) % 16);
         p += 1;
     }
@@ -50,6 +48,7 @@ pub fn decimal_len(n: u64) -> usize
 {
     let mut left = n;
     let mut k = 1usize;
+    // Each turn takes a digit off.
     while 10 <= left {
         left /= 10;
         k += 1;

@@ -18,10 +18,6 @@ pub fn put_bytes(buf: &mut [u8], at: usize, t: &[u8]) -> usize
     requires { Room buf.old at t.now }
     ensures { Put buf.old at t.now result buf.new }
 {
-    let mut i = 0usize;
-    while i < t.len() {
-        buf[at + i] = t[i];
-        i += 1;
-    }
-    at + i
+    buf[at..at + t.len()].copy_from_slice(t);
+    at + t.len()
 }

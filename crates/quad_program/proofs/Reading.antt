@@ -8,7 +8,8 @@ use borrow.Author.Tests.{lt-ltb, le-ltb}
 use lib.ListN.{length, set, take}
 use lib.Seq.{append_snoc, take-suc-set}
 use lib.Ieee.{Float}
-use Rattle.quad_program.specs.declared.Star.TheVariants as star
+use Rattle.std.proofs.Common.{Some, None}
+use Rattle.quad_program.specs.declared.Star.{Star}
 use Rattle.quad_program.specs.Form.{Sky, one_more_of, star_of, stars_from}
 
 -- stars before others
@@ -27,14 +28,13 @@ one_before us vs x y (Sky.Shows xs ys) = rw (append_snoc us x xs, append_snoc vs
 one_before us vs x y Sky.Wrong = refl
 
 -- the line of a star is read
-pub star_more : (s : List ℕ) (p n q : ℕ) (x y : Float) (xs ys : List Float) → p < length s → n < 14 → length xs ≡ 14 → length ys ≡ 14
-    → star_of s p ≡ star.At x y q
-    → before (take (n + 1) (set xs n x)) (take (n + 1) (set ys n y)) (stars_from (14 - (n + 1)) s q) ≡ before (take n xs) (take n ys) (stars_from (14 - n) s p)
+pub star_more : (s : List ℕ) (p n : ℕ) (a : Star) (xs ys : List Float) → p < length s → n < 14 → length xs ≡ 14 → length ys ≡ 14 → star_of s p ≡ Some a
+    → before (take (n + 1) (set xs n a.x)) (take (n + 1) (set ys n a.y)) (stars_from (14 - (n + 1)) s a.next) ≡ before (take n xs) (take n ys) (stars_from (14 - n) s p)
 unfolding stars_from
-star_more s p n q x y xs ys hp hn hx hy e =
+star_more s p n a xs ys hp hn hx hy e =
     let k : 14 - n ≡ suc (14 - suc n) = omega arith in
-    rw (k, lt-ltb p (length s) hp, e, add-one n, take-suc-set xs n x (omega arith), take-suc-set ys n y (omega arith))
-    (one_before (take n xs) (take n ys) x y (stars_from (14 - suc n) s q))
+    rw (k, lt-ltb p (length s) hp, e, add-one n, take-suc-set xs n a.x (omega arith), take-suc-set ys n a.y (omega arith))
+    (one_before (take n xs) (take n ys) a.x a.y (stars_from (14 - suc n) s a.next))
 
 -- a line is left, and there is no room for a star
 pub star_full : (s : List ℕ) (p n : ℕ) (us vs : List Float) (all : Sky) → p < length s → 14 ≤ n → before us vs (stars_from (14 - n) s p) ≡ all → Sky.Wrong ≡ all
@@ -44,7 +44,7 @@ star_full s p n us vs all hp hn e =
     rw (k, lt-ltb p (length s) hp) at e
 
 -- a line is no star's
-pub star_wrong : (s : List ℕ) (p n : ℕ) (us vs : List Float) (all : Sky) → p < length s → n < 14 → star_of s p ≡ star.Wrong → before us vs (stars_from (14 - n) s p) ≡ all
+pub star_wrong : (s : List ℕ) (p n : ℕ) (us vs : List Float) (all : Sky) → p < length s → n < 14 → star_of s p ≡ None → before us vs (stars_from (14 - n) s p) ≡ all
     → Sky.Wrong ≡ all
 unfolding stars_from
 star_wrong s p n us vs all hp hn w e =

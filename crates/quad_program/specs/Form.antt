@@ -1,16 +1,11 @@
 -- Which texts are in form, and what they say: each thing is read from a place of the text on. Definitions only.
-use Rattle.std.specs.Prelude.{cond, List, [], ◌∷◌, ℕ, zero, suc, ltb, length, take, Float}
+use Rattle.std.specs.Prelude.{cond, List, [], ◌∷◌, ℕ, zero, suc, ltb, length, take, Float, Option, Some, None, Ok, Err}
 use Rattle.std.specs.Float.{binary64}
 use Rattle.std.specs.Float.Ieee.{of_bits}
-use Rattle.scan_digits.specs.declared.Number.{Number}
-use Rattle.scan_digits.specs.declared.Number.TheVariants as number
+use Rattle.scan_digits.specs.Read.{Number}
 use Rattle.scan_fields.specs.Fields.{hex_field, decimal_field}
 use Rattle.quad_program.specs.declared.Star.{Star}
-use Rattle.quad_program.specs.declared.Star.TheVariants as star
-use Rattle.quad_program.specs.declared.Stars.{Stars}
-use Rattle.quad_program.specs.declared.Stars.TheVariants as stars
-use Rattle.quad_program.specs.declared.Parsed.{Parsed}
-use Rattle.quad_program.specs.declared.Parsed.TheVariants as outcome
+use Rattle.quad_program.specs.declared.Input.{Input}
 
 -- the name of the first line, "k="
 abbrev pub k_name : List ℕ
@@ -33,17 +28,17 @@ abbrev pub newline : List ℕ
 newline = 10 ∷ []
 
 -- a star whose x is known, with its y
-abbrev pub star_with : ℕ → Number → Star
-star_with x (number.Is y p) = star.At (of_bits binary64 x) (of_bits binary64 y) p
-star_with x (number.Wrong p) = star.Wrong
+abbrev pub star_with : ℕ → Number → Option Star
+star_with x (Ok (y, p)) = Some (record { x = of_bits binary64 x; y = of_bits binary64 y; next = p })
+star_with x (Err w) = None
 
 -- a star whose x is read, and its y after it, to the end of the line
-abbrev pub star_after : List ℕ → Number → Star
-star_after s (number.Is x p) = star_with x (hex_field [] newline s p)
-star_after s (number.Wrong p) = star.Wrong
+abbrev pub star_after : List ℕ → Number → Option Star
+star_after s (Ok (x, p)) = star_with x (hex_field [] newline s p)
+star_after s (Err w) = None
 
 -- the star of the line that starts at p
-unfoldable pub star_of : List ℕ → ℕ → Star
+unfoldable pub star_of : List ℕ → ℕ → Option Star
 star_of s p = star_after s (hex_field star_name comma s p)
 
 -- what the lines of the stars say: the x and the y of each, or that a line is not in form
@@ -57,9 +52,9 @@ one_more_of x y (Sky.Shows xs ys) = Sky.Shows (x ∷ xs) (y ∷ ys)
 one_more_of x y Sky.Wrong = Sky.Wrong
 
 -- a star and those of the lines after it
-abbrev pub star_then : Star → (ℕ → Sky) → Sky
-star_then (star.At x y p) others = one_more_of x y (others p)
-star_then star.Wrong others = Sky.Wrong
+abbrev pub star_then : Option Star → (ℕ → Sky) → Sky
+star_then (Some a) others = one_more_of a.x a.y (others a.next)
+star_then None others = Sky.Wrong
 
 -- the stars of the lines from p to the end of the text, at most so many
 unfoldable pub stars_from : ℕ → List ℕ → ℕ → Sky
@@ -79,34 +74,34 @@ with_stars k least Sky.Wrong = Form.Wrong
 
 -- a text whose k is known, with the line of the least squared spine and at most 14 stars after it
 abbrev pub after_least : List ℕ → ℕ → Number → Form
-after_least s k (number.Is bits p) = with_stars k (of_bits binary64 bits) (stars_from 14 s p)
-after_least s k (number.Wrong p) = Form.Wrong
+after_least s k (Ok (bits, p)) = with_stars k (of_bits binary64 bits) (stars_from 14 s p)
+after_least s k (Err w) = Form.Wrong
 
 -- a text with its first line read
 abbrev pub after_k : List ℕ → Number → Form
-after_k s (number.Is k p) = after_least s k (hex_field least_name newline s p)
-after_k s (number.Wrong p) = Form.Wrong
+after_k s (Ok (k, p)) = after_least s k (hex_field least_name newline s p)
+after_k s (Err w) = Form.Wrong
 
 -- what a text of at most 1,024 bytes says; a longer one is not in form
 unfoldable pub parsed : List ℕ → Form
 parsed s = cond (ltb 1024 (length s)) Form.Wrong (after_k s (decimal_field k_name newline s 0))
 
 -- what the answer of `read_stars` says, with the two lists that it filled
-abbrev pub sky_in : Stars → List Float → List Float → Sky
-sky_in (stars.Are n) xs ys = Sky.Shows (take n xs) (take n ys)
-sky_in stars.Wrong xs ys = Sky.Wrong
+abbrev pub sky_in : Option ℕ → List Float → List Float → Sky
+sky_in (Some n) xs ys = Sky.Shows (take n xs) (take n ys)
+sky_in None xs ys = Sky.Wrong
 
 -- how many stars it counted
-abbrev pub star_count : Stars → ℕ
-star_count (stars.Are n) = n
-star_count stars.Wrong = 0
+abbrev pub star_count : Option ℕ → ℕ
+star_count (Some n) = n
+star_count None = 0
 
 -- what the answer of `parse` says, with the two lists that it filled
-abbrev pub form_in : Parsed → List Float → List Float → Form
-form_in (outcome.Input k least n) xs ys = Form.Says k least (take n xs) (take n ys)
-form_in outcome.Wrong xs ys = Form.Wrong
+abbrev pub form_in : Option Input → List Float → List Float → Form
+form_in (Some a) xs ys = Form.Says a.k a.least (take a.stars xs) (take a.stars ys)
+form_in None xs ys = Form.Wrong
 
 -- how many stars it counted
-abbrev pub parsed_stars : Parsed → ℕ
-parsed_stars (outcome.Input k least n) = n
-parsed_stars outcome.Wrong = 0
+abbrev pub parsed_stars : Option Input → ℕ
+parsed_stars (Some a) = a.stars
+parsed_stars None = 0

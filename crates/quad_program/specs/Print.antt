@@ -1,12 +1,11 @@
 -- What is printed: lines of text for an answer and its quads. Definitions only.
-use Rattle.std.specs.Prelude.{List, [], ◌∷◌, ◌++◌, ℕ, zero, suc, get_or, drop, Float}
+use Rattle.answer.specs.declared.Refusal.{Refusal}
+use Rattle.std.specs.Prelude.{List, [], ◌∷◌, ◌++◌, ℕ, zero, suc, get_or, drop, Float, Result, Ok, Err}
 use Rattle.std.specs.Float.{nan}
 use Rattle.digits.specs.Digits.{hex_from, decimal_of}
 use Rattle.text.specs.Lines.{decimal_line}
 use Rattle.quad_key.specs.declared.Hash.{Hash}
 use Rattle.quad_key.specs.Key.{key_of}
-use Rattle.quad.specs.declared.Quads.{Quads}
-use Rattle.quad.specs.declared.Quads.TheVariants as quads
 use Rattle.quad_program.specs.Form.{comma, newline}
 
 -- the name "status="
@@ -59,6 +58,6 @@ unfoldable pub found_text : ℕ → List ℕ → List Float → List ℕ
 found_text n ps hs = status_line 0 ++ (decimal_line quads_name n ++ all_lines n ps hs)
 
 -- the lines after the number of an answer: how many quads were found, and the lines of each; a refusal has none
-unfoldable pub lines_of : Quads → List ℕ → List Float → List ℕ
-lines_of (quads.Found n) ps hs = decimal_line quads_name n ++ all_lines n ps hs
-lines_of (quads.Refused why) ps hs = []
+unfoldable pub lines_of : Result ℕ Refusal → List ℕ → List Float → List ℕ
+lines_of (Ok n) ps hs = decimal_line quads_name n ++ all_lines n ps hs
+lines_of (Err why) ps hs = []

@@ -9,9 +9,7 @@ ghost use Rattle.quad_program.specs.Print.{numbered, places_line, key_line, quad
 ghost use Rattle.quad_program.specs.Program.{quads_text, program_text};
 
 use answer::Refusal;
-use quad::Quads;
 use quad_key::Hash;
-use scan_digits::Number;
 
 // The most stars of a text.
 const MOST_STARS: usize = 14;
@@ -19,84 +17,74 @@ const MOST_STARS: usize = 14;
 // The most bytes of a text.
 const MOST_BYTES: usize = 1024;
 
-// A star's x and y, with the place after its line.
+// A star, with the place after its line.
 #[derive(Clone, Copy)]
-enum Star {
-    At(f64, f64, usize),
-    Wrong,
-}
-
-// How many stars the lines have.
-#[derive(Clone, Copy)]
-enum Stars {
-    Are(usize),
-    Wrong,
+struct Star {
+    x: f64,
+    y: f64,
+    next: usize,
 }
 
 // What a text says, the stars being in two lists beside it.
 #[derive(Clone, Copy)]
-enum Parsed {
-    Input { k: usize, least: f64, stars: usize },
-    Wrong,
+struct Input {
+    k: usize,
+    least: f64,
+    stars: usize,
 }
 
 // Reads the line of a star.
-fn read_star(s: &[u8], at: usize) -> Star
+#[tactic(auto, unfolding(crate::specs::Form::star_of))]
+fn read_star(s: &[u8], at: usize) -> Option<Star>
     ensures { result ≡ star_of s.now at }
 {
-    match scan_fields::hex_field(s, at, b"star=", b",") {
-        Number::Wrong(_) => Star::Wrong,
-        Number::Is(x, p) => match scan_fields::hex_field(s, p, b"", b"\n") {
-            Number::Wrong(_) => Star::Wrong,
-            Number::Is(y, q) => Star::At(scan_digits::of_bits(x), scan_digits::of_bits(y), q),
-        },
-    }
+    let (x, p) = scan_fields::hex_field(s, at, b"star=", b",").ok()?;
+    let (y, next) = scan_fields::hex_field(s, p, b"", b"\n").ok()?;
+    Some(Star {
+        x: scan_digits::of_bits(x),
+        y: scan_digits::of_bits(y),
+        next,
+    })
 }
 
-// Reads the lines of the stars, to the end of the text, into two lists.
-fn read_stars(s: &[u8], at: usize, xs: &mut [f64], ys: &mut [f64]) -> Stars
+// Reads the lines of the stars, to the end of the text, into two lists, and returns how many there are.
+fn read_stars(s: &[u8], at: usize, xs: &mut [f64], ys: &mut [f64]) -> Option<usize>
     requires { (length xs.old ≡ 14) × (length ys.old ≡ 14) }
     ensures { (sky_in result xs.new ys.new ≡ stars_from 14 s.now at) × (star_count result ≤ 14) }
 {
     let mut p = at;
     let mut n = 0usize;
+    // Where a line ends the next one starts.
     while p < s.len() {
         if MOST_STARS <= n {
-            return Stars::Wrong;
+            return None;
         }
-        let Star::At(x, y, q) = read_star(s, p) else {
-            return Stars::Wrong;
-        };
-        xs[n] = x;
-        ys[n] = y;
+        let star = read_star(s, p)?;
+        xs[n] = star.x;
+        ys[n] = star.y;
         n += 1;
-        p = q;
+        p = star.next;
     }
-    Stars::Are(n)
+    Some(n)
 }
 
 // Reads a whole text, its stars into two lists.
-fn parse(s: &[u8], xs: &mut [f64], ys: &mut [f64]) -> Parsed
+#[tactic(auto, unfolding(crate::specs::Form::parsed))]
+fn parse(s: &[u8], xs: &mut [f64], ys: &mut [f64]) -> Option<Input>
     requires { (length xs.old ≡ 14) × (length ys.old ≡ 14) }
     ensures { (form_in result xs.new ys.new ≡ parsed s.now) × (parsed_stars result ≤ 14) }
 {
     if MOST_BYTES < s.len() {
-        return Parsed::Wrong;
+        return None;
     }
-    let Number::Is(k, p) = scan_fields::decimal_field(s, 0, b"k=", b"\n") else {
-        return Parsed::Wrong;
-    };
-    let Number::Is(least, q) = scan_fields::hex_field(s, p, b"min_spine_sq=", b"\n") else {
-        return Parsed::Wrong;
-    };
-    match read_stars(s, q, xs, ys) {
-        Stars::Wrong => Parsed::Wrong,
-        Stars::Are(stars) => Parsed::Input {
-            k: k as usize,
-            least: scan_digits::of_bits(least),
-            stars,
-        },
-    }
+    let (k, p) = scan_fields::decimal_field(s, 0, b"k=", b"\n").ok()?;
+    let (least, q) = scan_fields::hex_field(s, p, b"min_spine_sq=", b"\n").ok()?;
+    let stars = read_stars(s, q, xs, ys)?;
+    Some(Input {
+        k: k as usize,
+        least: scan_digits::of_bits(least),
+        stars,
+    })
 }
 
 // Puts a text and a number in decimal.
@@ -157,10 +145,8 @@ fn put_quads(buf: &mut [u8], at: usize, n: usize, places: &[u8], hashes: &[f64])
     ensures { Put buf.old at (all_lines n places.now hashes.now) result buf.new × (result ≤ at + 42 * n) }
 {
     let mut m = at;
-    let mut i = 0usize;
-    while i < n {
+    for i in 0..n {
         m = put_quad(buf, m, places, hashes, 4 * i);
-        i += 1;
     }
     m
 }
@@ -191,8 +177,8 @@ fn put_answer(buf: &mut [u8], xs: &[f64], ys: &[f64], k: usize, least: f64) -> u
     let mut places = [0u8; 4004];
     let mut hashes = [0.0f64; 4004];
     match quad::neighbor_quads(xs, ys, k, least, &mut places, &mut hashes) {
-        Quads::Refused(why) => put_status(buf, why.number()),
-        Quads::Found(n) => put_found(buf, n, &places, &hashes),
+        Err(why) => put_status(buf, why.number()),
+        Ok(n) => put_found(buf, n, &places, &hashes),
     }
 }
 
@@ -206,9 +192,13 @@ pub fn answer(s: &[u8], out: &mut [u8; 42100]) -> usize
     let mut xs = [0.0f64; 14];
     let mut ys = [0.0f64; 14];
     match parse(s, &mut xs, &mut ys) {
-        Parsed::Wrong => put_status(out, Refusal::Form.number()),
-        Parsed::Input { k, least, stars } => {
-            put_answer(out, &xs[..stars], &ys[..stars], k, least)
-        }
+        None => put_status(out, Refusal::Form.number()),
+        Some(input) => put_answer(
+            out,
+            &xs[..input.stars],
+            &ys[..input.stars],
+            input.k,
+            input.least,
+        ),
     }
 }

@@ -1,4 +1,5 @@
 -- Laws of the record: its parts are its lines, and its size. Assumes nothing.
+use Rattle.std.specs.Prelude.{Ok, Err}
 use mathlib.Core.Path.{◌≡◌, refl, sym, ap, ◌∙◌}
 use mathlib.Core.Bool.{Bool, true, false, cond, not, ◌&&◌, and-eq-true_iff}
 use mathlib.Core.List.{List, [], ◌∷◌, ◌++◌, map}
@@ -19,7 +20,6 @@ use Rattle.answer.specs.Answers.{room_for, lent_after}
 use Rattle.answer.proofs.Passed.{passed}
 use Rattle.answer.specs.declared.Refusal.{Refusal}
 use Rattle.answer.specs.declared.Refusal.TheVariants as refusal
-use Rattle.answer.specs.declared.Answer.TheVariants as answer
 use Rattle.wcs.specs.declared.Wcs.{Wcs}
 use Rattle.wcs.specs.Wcs.{is_wcs}
 use Rattle.sip_terms.specs.declared.Sip.{Sip}
@@ -38,7 +38,6 @@ use Rattle.record_lines.specs.Table.{held_as}
 use Rattle.record_lines.proofs.Laws.{text_append}
 use Rattle.record_lines.proofs.Table.{head_in, record_parts}
 use Rattle.record_writer.specs.Wrote.{parts_text}
-use Rattle.record.specs.declared.Recorded.TheVariants as recorded
 use Rattle.record.specs.Record.{written_after, text_as, is_order, lengths_fit, input_answer, Passed, line_size, terms_size, record_size}
 
 -- ---- an input that passed its tests
@@ -59,13 +58,13 @@ pub record Checked (rows order a b : ℕ) : Type 0 where
   pub few_a : a ≤ 18
   pub few_b : b ≤ 18
 
-pub checked : (fit : Sip) (wcs : Wcs) (order a b : ℕ) → input_answer fit wcs order a b ≡ answer.Done → Checked fit.rows_used order a b
+pub checked : (fit : Sip) (wcs : Wcs) (order a b : ℕ) → input_answer fit wcs order a b ≡ Ok tt → Checked fit.rows_used order a b
 unfolding input_answer lengths_fit
 checked fit wcs order a b e =
     let f = passed (ltb 100 fit.rows_used) _ _ e in
     let g = passed (not (lengths_fit order a b)) _ _ f.1 in
-    let v = passed (not (is_wcs wcs)) refusal.Value (cond (not (is_order order)) (answer.Refused refusal.Order) answer.Done) g.1 in
-    let o = passed (not (is_order order)) refusal.Order answer.Done v.1 in
+    let v = passed (not (is_wcs wcs)) refusal.Value (cond (not (is_order order)) (Err refusal.Order) (Ok tt)) g.1 in
+    let o = passed (not (is_order order)) refusal.Order (Ok tt) v.1 in
     let is = not-false (is_order order) o.0 in
     let orders = (and-eq-true_iff (leb 2 order) (leb order 5)).0 is in
     let low : order ≤ 5 = leb-true order 5 orders.1 in
@@ -158,20 +157,20 @@ record_size_lem number s few p =
 -- ---- the room
 
 -- a buffer with the places that a text needs has room for it
-pub room_is : (size : ℕ) (t old : List ℕ) → size ≡ length t → room_for size (length old) ≡ answer.Done → Room old 0 t
+pub room_is : (size : ℕ) (t old : List ℕ) → size ≡ length t → room_for size (length old) ≡ Ok tt → Room old 0 t
 room_is size t old e d =
     let g = passed (ltb (length old) size) _ _ d in
     record { room = omega (arith, e, ltb-false (length old) size g.0) }
 
 -- a record that has no room is refused, and nothing changes
-pub not_written : (size : ℕ) (t old : List ℕ) (why : Refusal) → size ≡ length t → room_for size (length old) ≡ answer.Refused why
-    → (recorded.Refused why ≡ written_after (room_for (length t) (length old)) (length t)) × (old ≡ lent_after (room_for (length t) (length old)) t old)
+pub not_written : (size : ℕ) (t old : List ℕ) (why : Refusal) → size ≡ length t → room_for size (length old) ≡ Err why
+    → (Err why ≡ written_after (room_for (length t) (length old)) (length t)) × (old ≡ lent_after (room_for (length t) (length old)) t old)
 not_written size t old why e d = rw (← e, d) (refl, refl)
 
 -- one that has room is written, and the answer is its length
-pub all_written : (size : ℕ) (t old new : List ℕ) (n : ℕ) → size ≡ length t → room_for size (length old) ≡ answer.Done → Put old 0 t n new
-    → (recorded.Written n ≡ written_after (room_for (length t) (length old)) (length t)) × (new ≡ lent_after (room_for (length t) (length old)) t old)
+pub all_written : (size : ℕ) (t old new : List ℕ) (n : ℕ) → size ≡ length t → room_for size (length old) ≡ Ok tt → Put old 0 t n new
+    → (Ok n ≡ written_after (room_for (length t) (length old)) (length t)) × (new ≡ lent_after (room_for (length t) (length old)) t old)
 all_written size t old new n e d p =
-    let k : room_for (length t) (length old) ≡ answer.Done = ap (λ (m : ℕ). room_for m (length old)) (sym e) ∙ d in
+    let k : room_for (length t) (length old) ≡ (Ok tt) = ap (λ (m : ℕ). room_for m (length old)) (sym e) ∙ d in
     let l : n ≡ length t = omega (arith, p.next_is) in
-    rw k (ap recorded.Written l, put_front (room_is size t old e d) p)
+    rw k (ap Ok l, put_front (room_is size t old e d) p)

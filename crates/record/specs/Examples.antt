@@ -1,5 +1,5 @@
 -- Worked examples, each by computation.
-use Rattle.std.specs.Prelude.{◌≡◌, refl, true, [], ◌∷◌, ℕ, Float}
+use Rattle.std.specs.Prelude.{◌≡◌, refl, true, [], ◌∷◌, ℕ, Float, Ok, Err}
 use Rattle.std.specs.Float.{nan, inf, binary64}
 use Rattle.std.specs.Float.Ieee.{of_bits, to_bits, neg, lt, le, eq}
 use Rattle.floats.specs.Magnitude.{magnitude_of}
@@ -15,7 +15,6 @@ use Rattle.record_lines.specs.Lines.{Solution, text_of}
 use Rattle.record_lines.specs.Parts.{term_lines}
 use Rattle.record_format.specs.Formats.{format_of}
 use Rattle.record_lines.specs.Table.{term_slots, lines_of, lines_as}
-use Rattle.record.specs.declared.Recorded.TheVariants as recorded
 use Rattle.record.specs.Record.{record_text, lengths_fit, input_answer, record_answer}
 
 abbrev half : Float
@@ -70,12 +69,12 @@ unfolding lines_as lines_of format_of term_slots count_to text_of decimal_line d
 whole = refl
 
 -- it needs 258 bytes, and one less is number 7
-fits : record_answer settled 258 ≡ recorded.Written 258
+fits : record_answer settled 258 ≡ Ok 258
 unfolding lines_as lines_of format_of term_slots count_to text_of decimal_line decimal_of decimal_from float_line hex_from
     input_answer lengths_fit is_wcs is_cd magnitude_of of_bits to_bits neg lt le eq
 fits = refl
 
-no_room : record_answer settled 257 ≡ recorded.Refused Room
+no_room : record_answer settled 257 ≡ Err Room
 unfolding lines_as lines_of format_of term_slots count_to text_of decimal_line decimal_of decimal_from float_line hex_from
     input_answer lengths_fit is_wcs is_cd magnitude_of of_bits to_bits neg lt le eq
 no_room = refl
@@ -86,20 +85,20 @@ unfolding text_of term_lines float_line hex_from magnitude_of of_bits to_bits lt
 lines = refl
 
 -- 101 rows are number 1, before all else
-rows : record_answer (record { fit = fitted 101; wcs = unit nan; order = 2; a = []; b = [] }) 0 ≡ recorded.Refused Count
+rows : record_answer (record { fit = fitted 101; wcs = unit nan; order = 2; a = []; b = [] }) 0 ≡ Err Count
 unfolding input_answer
 rows = refl
 
 -- a coefficient too few is number 2, before the reference pixel
-short : record_answer (record { fit = fitted 6; wcs = unit nan; order = 2; a = half ∷ []; b = [] }) 0 ≡ recorded.Refused Lengths
+short : record_answer (record { fit = fitted 6; wcs = unit nan; order = 2; a = half ∷ []; b = [] }) 0 ≡ Err Lengths
 unfolding input_answer lengths_fit count_to
 short = refl
 
 -- order 6 has no terms to compare with; the reference pixel comes first, and then the order
-pixel : record_answer (record { fit = fitted 6; wcs = unit nan; order = 6; a = []; b = [] }) 0 ≡ recorded.Refused Value
+pixel : record_answer (record { fit = fitted 6; wcs = unit nan; order = 6; a = []; b = [] }) 0 ≡ Err Value
 unfolding input_answer lengths_fit is_wcs is_cd of_bits neg lt le eq
 pixel = refl
 
-order : record_answer (record { fit = fitted 6; wcs = unit nothing; order = 6; a = []; b = [] }) 0 ≡ recorded.Refused Order
+order : record_answer (record { fit = fitted 6; wcs = unit nothing; order = 6; a = []; b = [] }) 0 ≡ Err Order
 unfolding input_answer lengths_fit is_wcs is_cd of_bits neg lt le eq
 order = refl

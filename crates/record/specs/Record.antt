@@ -1,18 +1,15 @@
 -- The answer of `write_record`, and the text that it writes. Definitions only.
-use Rattle.std.specs.Prelude.{◌≡◌, Bool, true, cond, not, ◌&&◌, List, [], ◌∷◌, ℕ, ◌+◌, ltb, leb, eqb, length, Float}
+use Rattle.answer.specs.declared.Refusal.{Refusal}
+use Rattle.std.specs.Prelude.{◌≡◌, Bool, true, cond, not, ◌&&◌, List, [], ◌∷◌, ℕ, ◌+◌, ltb, leb, eqb, length, Float, Result, Ok, Err}
 use Rattle.digits.specs.Digits.{decimal_of}
-use Rattle.answer.specs.Answers.{number_of, first, room_for}
+use Rattle.answer.specs.Answers.{first, room_for}
 use Rattle.answer.specs.declared.Refusal.TheVariants as refusal
-use Rattle.answer.specs.declared.Answer.{Answer}
-use Rattle.answer.specs.declared.Answer.TheVariants as answer
 use Rattle.wcs.specs.declared.Wcs.{Wcs}
 use Rattle.wcs.specs.Wcs.{is_wcs}
 use Rattle.sip_terms.specs.declared.Sip.{Sip}
 use Rattle.sip_terms.specs.Terms.{term_count, is_kept}
 use Rattle.record_lines.specs.Lines.{Solution, text_of}
 use Rattle.record_lines.specs.Table.{record_as, record_of}
-use Rattle.record.specs.declared.Recorded.{Recorded}
-use Rattle.record.specs.declared.Recorded.TheVariants as recorded
 
 -- what a call is given to write
 abbrev pub solution : Sip → Wcs → ℕ → List Float → List Float → Solution
@@ -35,35 +32,30 @@ unfoldable pub lengths_fit : ℕ → ℕ → ℕ → Bool
 lengths_fit order a b = cond (not (is_order order)) true (eqb a (term_count order) && eqb b (term_count order))
 
 -- what the tests of the input come to, of so many coefficients: number 1, 2, 3 or 5, or done
-unfoldable pub input_answer : Sip → Wcs → ℕ → ℕ → ℕ → Answer
+unfoldable pub input_answer : Sip → Wcs → ℕ → ℕ → ℕ → Result Unit Refusal
 input_answer fit wcs order a b =
-    cond (ltb 100 fit.rows_used) (answer.Refused refusal.Count)
-    (cond (not (lengths_fit order a b)) (answer.Refused refusal.Lengths)
-    (cond (not (is_wcs wcs)) (answer.Refused refusal.Value)
-    (cond (not (is_order order)) (answer.Refused refusal.Order)
-    answer.Done)))
+    cond (ltb 100 fit.rows_used) (Err refusal.Count)
+    (cond (not (lengths_fit order a b)) (Err refusal.Lengths)
+    (cond (not (is_wcs wcs)) (Err refusal.Value)
+    (cond (not (is_order order)) (Err refusal.Order)
+    (Ok tt))))
 
 -- a solution that passes them
 abbrev pub Passed : Solution → Type 0
-Passed s = input_answer s.fit s.wcs s.order (length s.a) (length s.b) ≡ answer.Done
+Passed s = input_answer s.fit s.wcs s.order (length s.a) (length s.b) ≡ Ok tt
 
 -- whether the record is written in so much room: those numbers and 7, or done
-abbrev pub record_done : Solution → ℕ → Answer
+abbrev pub record_done : Solution → ℕ → Result Unit Refusal
 record_done s room = first (input_answer s.fit s.wcs s.order (length s.a) (length s.b)) (room_for (length (record_text s)) room)
 
 -- the answer after the tests
-abbrev pub written_after : Answer → ℕ → Recorded
-written_after answer.Done n = recorded.Written n
-written_after (answer.Refused why) n = recorded.Refused why
+abbrev pub written_after : Result Unit Refusal → ℕ → Result ℕ Refusal
+written_after (Ok tt) n = Ok n
+written_after (Err why) n = Err why
 
 -- the answer of `write_record`: that, and how many bytes the record has
-abbrev pub record_answer : Solution → ℕ → Recorded
+abbrev pub record_answer : Solution → ℕ → Result ℕ Refusal
 record_answer s room = written_after (record_done s room) (length (record_text s))
-
--- the number of an answer: 0 is done
-abbrev pub recorded_number : Recorded → ℕ
-recorded_number (recorded.Written n) = 0
-recorded_number (recorded.Refused why) = number_of why
 
 -- the bytes that a coefficient takes: a line of 23, or none
 abbrev pub line_size : Float → ℕ

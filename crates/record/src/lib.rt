@@ -5,9 +5,9 @@ ghost use Rattle.std.specs.Prelude.{◌≡◌, ◌≤◌, length};
 ghost use Rattle.answer.specs.Answers.{room_for, lent_after};
 ghost use Rattle.put.specs.Put.{Put, Room};
 ghost use Rattle.record.specs.Record.{solution, is_order, lengths_fit, input_answer, Passed, line_size, terms_size, record_size};
-ghost use Rattle.record.specs.Record.{record_text, written_after, record_done, record_answer, recorded_number};
+ghost use Rattle.record.specs.Record.{record_text, written_after, record_done, record_answer};
 
-use answer::{Answer, Refusal};
+use answer::Refusal;
 use record_format::Format;
 use record_lines::{Axis, Head};
 use sip_terms::Sip;
@@ -21,25 +21,6 @@ const FIXED_SIZE: usize = 234;
 
 // The bytes of a coefficient's line.
 const LINE_SIZE: usize = 23;
-
-// The answer of write_record: how many bytes were written.
-#[derive(Clone, Copy)]
-pub enum Recorded {
-    Written(usize),
-    Refused(Refusal),
-}
-
-impl Recorded {
-    // The number of the answer: 0 is done.
-    pub fn number(self) -> u32
-        ensures { result ≡ recorded_number self }
-    {
-        match self {
-            Recorded::Written(_) => 0,
-            Recorded::Refused(why) => why.number(),
-        }
-    }
-}
 
 // Whether an order is fitted.
 fn is_order(order: u32) -> bool
@@ -60,22 +41,22 @@ fn lengths_fit(order: u32, a: usize, b: usize) -> bool
 }
 
 // The tests of the input, in their order.
-fn check_input(fit: Sip, wcs: Wcs, order: u32, a: usize, b: usize) -> Answer
+fn check_input(fit: Sip, wcs: Wcs, order: u32, a: usize, b: usize) -> Result<(), Refusal>
     ensures { result ≡ input_answer fit wcs order a b }
 {
     if MOST_ROWS < fit.rows_used {
-        return Answer::Refused(Refusal::Count);
+        return Err(Refusal::Count);
     }
     if !lengths_fit(order, a, b) {
-        return Answer::Refused(Refusal::Lengths);
+        return Err(Refusal::Lengths);
     }
     if !wcs.is_taken() {
-        return Answer::Refused(Refusal::Value);
+        return Err(Refusal::Value);
     }
     if !is_order(order) {
-        return Answer::Refused(Refusal::Order);
+        return Err(Refusal::Order);
     }
-    Answer::Done
+    Ok(())
 }
 
 // The bytes that a coefficient takes.
@@ -94,10 +75,8 @@ fn terms_size(cs: &[f64]) -> usize
     ensures { (result ≡ terms_size cs.now) × (result ≤ 414) }
 {
     let mut m = 0usize;
-    let mut i = 0usize;
-    while i < cs.len() {
-        m += line_size(cs[i]);
-        i += 1;
+    for c in cs {
+        m += line_size(*c);
     }
     m
 }
@@ -130,7 +109,14 @@ fn put_record(fit: Sip, wcs: Wcs, order: u32, a: &[f64], b: &[f64], text: &mut [
 }
 
 // Writes the record of an input that passed its tests, where it has the room.
-fn write_checked(fit: Sip, wcs: Wcs, order: u32, a: &[f64], b: &[f64], text: &mut [u8]) -> Recorded
+fn write_checked(
+    fit: Sip,
+    wcs: Wcs,
+    order: u32,
+    a: &[f64],
+    b: &[f64],
+    text: &mut [u8],
+) -> Result<usize, Refusal>
     requires { Passed (solution fit wcs order a.now b.now) }
     ensures { (result ≡ written_after
         (room_for (length (record_text (solution fit wcs order a.now b.now))) (length text.old))
@@ -140,10 +126,8 @@ fn write_checked(fit: Sip, wcs: Wcs, order: u32, a: &[f64], b: &[f64], text: &mu
         (record_text (solution fit wcs order a.now b.now)) text.old) }
 {
     let size = record_size(fit.rows_used, a, b);
-    match answer::room_for(size, text.len()) {
-        Answer::Refused(why) => Recorded::Refused(why),
-        Answer::Done => Recorded::Written(put_record(fit, wcs, order, a, b, text)),
-    }
+    answer::room_for(size, text.len())?;
+    Ok(put_record(fit, wcs, order, a, b, text))
 }
 
 // Writes the record of a solution, in the newest format, from the front of the text: what a fit hands back, the WCS that it
@@ -155,14 +139,12 @@ pub fn write_record(
     a: &[f64],
     b: &[f64],
     text: &mut [u8],
-) -> Recorded
+) -> Result<usize, Refusal>
     ensures answer { result ≡ record_answer (solution fit wcs order a.now b.now) (length text.old) }
     ensures text { text.new ≡ lent_after
         (record_done (solution fit wcs order a.now b.now) (length text.old))
         (record_text (solution fit wcs order a.now b.now)) text.old }
 {
-    match check_input(fit, wcs, order, a.len(), b.len()) {
-        Answer::Refused(why) => Recorded::Refused(why),
-        Answer::Done => write_checked(fit, wcs, order, a, b, text),
-    }
+    check_input(fit, wcs, order, a.len(), b.len())?;
+    write_checked(fit, wcs, order, a, b, text)
 }

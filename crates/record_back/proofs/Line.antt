@@ -7,8 +7,8 @@ use native.Mathlib.Omega.{arith}
 use lib.ListN.{length, drop}
 use lib.Ieee.{binary64, of_bits, to_bits}
 use Rattle.text.specs.Lines.{float_line, decimal_line}
-use Rattle.scan.specs.declared.Place.{Place}
-use Rattle.scan.specs.declared.Place.TheVariants as place
+use Rattle.scan.specs.declared.Wrong.{Wrong}
+use Rattle.std.proofs.Common.{Result, Ok, Err}
 use Rattle.scan.specs.Read.{read_bytes}
 use Rattle.scan.proofs.Round.{text_read}
 use Rattle.scan.proofs.Back.{left_after, read_stands}
@@ -25,13 +25,13 @@ pub data Outcome (k : Slot) (s : List ℕ) (c : Spot) : Type 0 where
       → read_slot k s c ≡ record { value = n; next = record { at = q; line = c.line + 1; good = true } } → Outcome k s c
   missed : read_slot k s c ≡ missed_line c k.must (blank_of k.kind) → Outcome k s c
 
-outcome_of : (k : Slot) (s : List ℕ) (c : Spot) (n : ℕ) → number_at k.kind k.name s c.at ≡ n → (g o : Bool) (f : Place) → c.good ≡ g → may_show k.kind n ≡ o
+outcome_of : (k : Slot) (s : List ℕ) (c : Spot) (n : ℕ) → number_at k.kind k.name s c.at ≡ n → (g o : Bool) (f : Result ℕ Wrong) → c.good ≡ g → may_show k.kind n ≡ o
     → read_bytes (line_for k.kind k.name n) (drop c.at s) c.at ≡ f → Outcome k s c
 unfolding read_slot
 outcome_of k s c n en false o f eg eo ef = Outcome.missed (rw (en, eg))
 outcome_of k s c n en true false f eg eo ef = Outcome.missed (rw (en, eg, eo))
-outcome_of k s c n en true true (place.Not p) eg eo ef = Outcome.missed (rw (en, eg, eo, ef))
-outcome_of k s c n en true true (place.Next q) eg eo ef =
+outcome_of k s c n en true true (Err w) eg eo ef = Outcome.missed (rw (en, eg, eo, ef))
+outcome_of k s c n en true true (Ok q) eg eo ef =
     let L = line_for k.kind k.name n in
     Outcome.stood n q eg eo (read_stands L s c.at q ef).0 (rw (en, eg, eo, ef))
 
@@ -46,12 +46,12 @@ outcome k s c =
 pub value_read : (k : Kind) (name s : List ℕ) (at n : ℕ) (ys : List ℕ) → Whole64 k n → drop at s ≡ line_for k name n ++ ys → number_at k name s at ≡ n
 value_read (Kind.Whole least most) name s at n ys h e =
     let L = decimal_line name n in
-    let r : read_bytes L (drop at s) at ≡ place.Next (at + length L) = rw e (text_read L ys at) in
+    let r : read_bytes L (drop at s) at ≡ Ok (at + length L) = rw e (text_read L ys at) in
     whole_read name (10 ∷ []) s at n (at + length L) (decimal_line_read name s at n (at + length L) h r)
 value_read (Kind.Real test) name s at n ys h e =
     let b = to_bits binary64 (of_bits binary64 n) in
     let L = float_line name b in
-    let r : read_bytes L (drop at s) at ≡ place.Next (at + length L) = rw e (text_read L ys at) in
+    let r : read_bytes L (drop at s) at ≡ Ok (at + length L) = rw e (text_read L ys at) in
     bits_read name (10 ∷ []) s at b (at + length L) (float_line_read name s at b (at + length L) (omega (arith, h.0, h.1)) r) ∙ h.0
 
 pub record Stood (k : Slot) (s : List ℕ) (c : Spot) (n : ℕ) (ys : List ℕ) : Type 0 where
@@ -63,7 +63,7 @@ pub slot_written : (k : Slot) (s : List ℕ) (c : Spot) (n : ℕ) (ys : List ℕ
 unfolding read_slot
 slot_written k s c n ys eg eo h e =
     let L = line_for k.kind k.name n in
-    let b : read_bytes L (drop c.at s) c.at ≡ place.Next (c.at + length L) = rw e (text_read L ys c.at) in
+    let b : read_bytes L (drop c.at s) c.at ≡ Ok (c.at + length L) = rw e (text_read L ys c.at) in
     record {
       is = rw (value_read k.kind k.name s c.at n ys h e, eg, eo, b);
       left = left_after L s ys c.at e;

@@ -1,4 +1,6 @@
 -- No record has more than `most_bytes` bytes, so a caller who lends so many is never refused for room. Assumes nothing.
+use Rattle.answer.specs.declared.Refusal.{Refusal}
+use Rattle.std.specs.Prelude.{Result, Ok, Err}
 use mathlib.Core.Path.{◌≡◌, refl}
 use mathlib.Core.Bool.{Bool, true, false, cond, and-eq-true_iff}
 use mathlib.Core.List.{List, [], ◌∷◌}
@@ -11,8 +13,6 @@ use borrow.Author.Tests.{ltb-true, ltb-false, leb-true, le-ltb}
 use Rattle.digits.specs.Digits.{decimal_of}
 use Rattle.digits.proofs.Decimal.{length_decimal_one, length_decimal_more}
 use Rattle.answer.specs.Answers.{first, room_for}
-use Rattle.answer.specs.declared.Answer.{Answer}
-use Rattle.answer.specs.declared.Answer.TheVariants as answer
 use Rattle.sip_terms.specs.Terms.{is_kept}
 use Rattle.record_lines.specs.Lines.{Solution}
 use Rattle.record_format.specs.Formats.{newest_format, is_format}
@@ -58,6 +58,6 @@ record_most number s known p =
 pub room_enough : (s : Solution) (room : ℕ) → most_bytes ≤ room → record_done s room ≡ input_answer s.fit s.wcs s.order (length s.a) (length s.b)
 room_enough s room h = go (input_answer s.fit s.wcs s.order (length s.a) (length s.b)) (record_most newest_format s refl)
   where
-    go : (a : Answer) → (a ≡ answer.Done → length (record_text s) ≤ most_bytes) → first a (room_for (length (record_text s)) room) ≡ a
-    go answer.Done m = rw (le-ltb room (length (record_text s)) (omega (arith, h, m refl)))
-    go (answer.Refused why) m = refl
+    go : (a : Result Unit Refusal) → (a ≡ Ok tt → length (record_text s) ≤ most_bytes) → first a (room_for (length (record_text s)) room) ≡ a
+    go (Ok tt) m = rw (le-ltb room (length (record_text s)) (omega (arith, h, m refl)))
+    go (Err why) m = refl

@@ -1,4 +1,5 @@
 -- What the tests of the writer say of each number, and the other way round. Assumes nothing.
+use Rattle.std.specs.Prelude.{Ok, Err}
 use mathlib.Core.Path.{◌≡◌}
 use mathlib.Core.Bool.{Bool, true, cond, not, ◌&&◌, and-eq-true_iff}
 use Prim.Native.Nat.{◌≤◌}
@@ -8,7 +9,6 @@ use lib.Ieee.{of_bits, neg, lt, le, eq}
 use borrow.Author.Tests.{ltb-false, leb-true, not-false}
 use Rattle.answer.proofs.Passed.{passed}
 use Rattle.answer.specs.declared.Refusal.TheVariants as refusal
-use Rattle.answer.specs.declared.Answer.TheVariants as answer
 use Rattle.domain.specs.Domain.{is_position, is_finite}
 use Rattle.cd_plate.specs.Plate.{is_cd}
 use Rattle.wcs.specs.declared.Wcs.{Wcs}
@@ -57,7 +57,7 @@ unfolding input_answer
 tests s e =
     let f = passed (ltb 100 s.fit.rows_used) _ _ e in
     let g = passed (not (lengths_fit s.order (length s.a) (length s.b))) _ _ f.1 in
-    let v = passed (not (is_wcs s.wcs)) refusal.Value (cond (not (is_order s.order)) (answer.Refused refusal.Order) answer.Done) g.1 in
-    let o = passed (not (is_order s.order)) refusal.Order answer.Done v.1 in
+    let v = passed (not (is_wcs s.wcs)) refusal.Value (cond (not (is_order s.order)) (Err refusal.Order) (Ok tt)) g.1 in
+    let o = passed (not (is_order s.order)) refusal.Order (Ok tt) v.1 in
     let is = both (leb 2 s.order) (leb s.order 5) (not-false (is_order s.order) o.0) in
     record { rows = ltb-false 100 s.fit.rows_used f.0; wcs = not-false (is_wcs s.wcs) v.0; least = leb-true 2 s.order is.0; most = leb-true s.order 5 is.1 }

@@ -1,4 +1,6 @@
 -- How a record is read into what is lent, from the steps of the code. Assumes nothing.
+use Rattle.answer.specs.declared.Refusal.{Refusal}
+use Rattle.std.specs.Prelude.{Result, Ok, Err}
 use mathlib.Core.Path.{◌≡◌, refl, ap, ◌∙◌}
 use mathlib.Core.Bool.{Bool, true, false, cond, ◌||◌}
 use mathlib.Core.List.{List, [], ◌++◌, append-nil}
@@ -11,8 +13,6 @@ use lib.Seq.{take_all}
 use lib.Ieee.{Float}
 use Rattle.answer.specs.Answers.{answer_number, first, room_for, lent_after}
 use Rattle.answer.specs.declared.Refusal.TheVariants as refusal
-use Rattle.answer.specs.declared.Answer.{Answer}
-use Rattle.answer.specs.declared.Answer.TheVariants as answer
 use Rattle.answer.proofs.Passed.{neither}
 use Rattle.sip_terms.specs.Terms.{count_to, term_count}
 use Rattle.record_lines.specs.Lines.{Solution}
@@ -48,11 +48,11 @@ some_shown t = go (record_in t) refl
 -- ---- the answer of the inner call
 
 -- no coefficient has room everywhere
-room_none : (n : ℕ) → room_for 0 n ≡ answer.Done
+room_none : (n : ℕ) → room_for 0 n ≡ Ok tt
 room_none n = rw (le-ltb n 0 (omega arith))
 
 -- one has none in no place
-no_room : (n : ℕ) → 1 ≤ n → room_for n 0 ≡ answer.Refused refusal.Room
+no_room : (n : ℕ) → 1 ≤ n → room_for n 0 ≡ Err refusal.Room
 no_room n h = rw (lt-ltb 0 n (omega (arith, h)))
 
 -- of a text with a wrong line it is the line
@@ -60,13 +60,13 @@ wrong_answer : (line p b : ℕ) → after_room (first (room_for 0 p) (room_for 0
 wrong_answer line p b = rw (room_none p, room_none b)
 
 -- without room for the WCS or the sums there is none for a
-short_room : (s : Solution) (o : Lent) → (ltb (length o.wcs) 6 || ltb (length o.sums) 3) ≡ true → room_in s o ≡ answer.Refused refusal.Room
+short_room : (s : Solution) (o : Lent) → (ltb (length o.wcs) 6 || ltb (length o.sums) 3) ≡ true → room_in s o ≡ Err refusal.Room
 short_room s o e = go (ltb (length o.wcs) 6) (ltb (length o.a) (length s.a)) (ltb (length o.b) (length s.b)) (ltb (length o.sums) 3) e
   where
-    room : Bool → Answer
-    room b = cond b (answer.Refused refusal.Room) answer.Done
+    room : Bool → Result Unit Refusal
+    room b = cond b (Err refusal.Room) (Ok tt)
 
-    go : (w a b n : Bool) → (w || n) ≡ true → first (room w) (first (room a) (first (room b) (room n))) ≡ answer.Refused refusal.Room
+    go : (w a b n : Bool) → (w || n) ≡ true → first (room w) (first (room a) (first (room b) (room n))) ≡ Err refusal.Room
     go true a b n h = refl
     go false true b n h = refl
     go false false true n h = refl
@@ -77,9 +77,9 @@ long_room : (s : Solution) (o : Lent) → ltb (length o.wcs) 6 ≡ false → ltb
     → room_in s o ≡ first (room_for (length s.a) (length o.a)) (room_for (length s.b) (length o.b))
 long_room s o w n = rw (w, n) (ap (first (room_for (length s.a) (length o.a))) (ends (room_for (length s.b) (length o.b))))
   where
-    ends : (x : Answer) → first x answer.Done ≡ x
-    ends answer.Done = refl
-    ends (answer.Refused why) = refl
+    ends : (x : Result Unit Refusal) → first x (Ok tt) ≡ x
+    ends (Ok tt) = refl
+    ends (Err why) = refl
 
 -- ---- what the code did
 
@@ -120,7 +120,7 @@ wrong_end line p o n read a b r i er ea eb ez =
     (er ∙ ap loaded_number e, whole n (at_line line (bare o)) o.a o.b x (eb ∙ i.second) (ez ∙ ap (λ (l : Loaded). put_in l (bare o)) e))
 
 -- no room beside the coefficients
-short_end : (format : ℕ) (s : Solution) (o n : Lent) (read : Loaded) (a b : List Float) (r : ℕ) → 1 ≤ length s.a → room_in s o ≡ answer.Refused refusal.Room
+short_end : (format : ℕ) (s : Solution) (o n : Lent) (read : Loaded) (a b : List Float) (r : ℕ) → 1 ≤ length s.a → room_in s o ≡ Err refusal.Room
     → RecordLoaded (Reading.Shows format s) (take 0 o.a) o.b read a b → r ≡ loaded_number read → n.a ≡ a ++ drop 0 o.a → n.b ≡ b → bare n ≡ put_in read (bare o)
     → Promised (Reading.Shows format s) o r n
 short_end format s o n read a b r some short i er ea eb ez =
@@ -133,12 +133,12 @@ short_end format s o n read a b r some short i er ea eb ez =
     rw short (er ∙ ap loaded_number e, whole n (bare o) o.a o.b x (eb ∙ fb) z)
 
 -- room for the coefficients, or none
-long_end : (room : Answer) (format : ℕ) (s : Solution) (o n : Lent) (read : Loaded) (a b : List Float) (r : ℕ) → read ≡ after_room room (loaded.Is format s.fit s.wcs s.order)
+long_end : (room : Result Unit Refusal) (format : ℕ) (s : Solution) (o n : Lent) (read : Loaded) (a b : List Float) (r : ℕ) → read ≡ after_room room (loaded.Is format s.fit s.wcs s.order)
     → a ≡ lent_after room s.a o.a → b ≡ lent_after room s.b o.b → r ≡ loaded_number read → n.a ≡ a → n.b ≡ b → bare n ≡ put_in read (bare o)
     → (r ≡ answer_number room) × (n ≡ held_after room format s o)
-long_end answer.Done format s o n read a b r e fa fb er ea eb ez =
+long_end (Ok tt) format s o n read a b r e fa fb er ea eb ez =
     (er ∙ ap loaded_number e, whole n (bare (holding format s o)) _ _ (ea ∙ fa) (eb ∙ fb) (ez ∙ ap (λ (l : Loaded). put_in l (bare o)) e))
-long_end (answer.Refused why) format s o n read a b r e fa fb er ea eb ez =
+long_end (Err why) format s o n read a b r e fa fb er ea eb ez =
     (er ∙ ap loaded_number e, whole n (bare o) o.a o.b (ea ∙ fa) (eb ∙ fb) (ez ∙ ap (λ (l : Loaded). put_in l (bare o)) e))
 
 -- the promise, from the steps

@@ -1,9 +1,8 @@
 -- What `read_record` promises where the solution goes into what is lent: said once, for the face and for C. Definitions only.
-use Rattle.std.specs.Prelude.{◌≡◌, cond, ◌||◌, List, ℕ, ◌≤◌, ltb, length, Float}
+use Rattle.answer.specs.declared.Refusal.{Refusal}
+use Rattle.std.specs.Prelude.{◌≡◌, cond, ◌||◌, List, ℕ, ◌≤◌, ltb, length, Float, Result, Ok, Err}
 use Rattle.answer.specs.Answers.{answer_number, first, room_for, written}
 use Rattle.answer.specs.declared.Refusal.TheVariants as refusal
-use Rattle.answer.specs.declared.Answer.{Answer}
-use Rattle.answer.specs.declared.Answer.TheVariants as answer
 use Rattle.wcs.specs.Wcs.{wcs_numbers}
 use Rattle.sip_terms.specs.Sums.{sums_of}
 use Rattle.record_lines.specs.Lines.{Solution}
@@ -28,7 +27,7 @@ lent format rows wcs order a b sums line =
     record { format = format; rows = rows; wcs = wcs; order = order; a = a; b = b; sums = sums; line = line }
 
 -- whether there is room for a solution: six numbers of the WCS, a coefficient for each term, three sums; else number 7
-abbrev pub room_in : Solution → Lent → Answer
+abbrev pub room_in : Solution → Lent → Result Unit Refusal
 room_in s o =
     first (room_for 6 (length o.wcs))
     (first (room_for (length s.a) (length o.a))
@@ -36,9 +35,9 @@ room_in s o =
     (room_for 3 (length o.sums))))
 
 -- the answer: number 10, then 7, or done
-abbrev pub read_done : Reading → Lent → Answer
+abbrev pub read_done : Reading → Lent → Result Unit Refusal
 read_done (Reading.Shows format s) o = room_in s o
-read_done (Reading.WrongAt line) o = answer.Refused refusal.Form
+read_done (Reading.WrongAt line) o = Err refusal.Form
 
 -- what stands there when a solution was read: each of its numbers from the front, and the line's number as it was
 abbrev pub holding : ℕ → Solution → Lent → Lent
@@ -51,9 +50,9 @@ abbrev pub at_line : ℕ → Lent → Lent
 at_line line o = lent o.format o.rows o.wcs o.order o.a o.b o.sums line
 
 -- a solution where there was room, else what stood there
-abbrev pub held_after : Answer → ℕ → Solution → Lent → Lent
-held_after answer.Done format s o = holding format s o
-held_after (answer.Refused why) format s o = o
+abbrev pub held_after : Result Unit Refusal → ℕ → Solution → Lent → Lent
+held_after (Ok tt) format s o = holding format s o
+held_after (Err why) format s o = o
 
 -- what stands there after the call
 abbrev pub lent_read : Reading → Lent → Lent

@@ -9,7 +9,6 @@ ghost use Rattle.record_face.specs.Face.{sip_in, solution_in, record_face};
 ghost use Rattle.record_face.specs.Read.{lent, RecordRead, places_of, put_in, RoomWhereRead};
 
 use answer::Refusal;
-use record::Recorded;
 use record_load::Loaded;
 use sip_terms::Sip;
 use wcs::Wcs;
@@ -53,8 +52,8 @@ pub fn write_record(
     }
     let fit = sip_in(rows, sums);
     match record::write_record(fit, Wcs::of(wcs), order, a, b, text) {
-        Recorded::Refused(why) => why.number(),
-        Recorded::Written(count) => {
+        Err(why) => why.number(),
+        Ok(count) => {
             *written = count as u64;
             0
         }

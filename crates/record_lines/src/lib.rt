@@ -38,14 +38,12 @@ impl Axis {
     {
         let format = Format::of(number);
         let mut numbers = [0.0f64; 18];
-        let mut i = 0usize;
-        while i < cs.len() {
-            numbers[i] = format.held(cs[i]);
-            i += 1;
+        for (i, c) in cs.iter().enumerate() {
+            numbers[i] = format.held(*c);
         }
         Axis {
             letter,
-            terms: i,
+            terms: cs.len(),
             numbers,
         }
     }
@@ -110,11 +108,9 @@ fn put_terms(buf: &mut [u8], at: usize, letter: u8, cs: &[f64]) -> usize
 {
     let mut m = at;
     let mut t = Term::first();
-    let mut i = 0usize;
-    while i < cs.len() {
-        m = put_term(buf, m, letter, t, cs[i]);
+    for c in cs {
+        m = put_term(buf, m, letter, t, *c);
         t = t.next();
-        i += 1;
     }
     m
 }

@@ -1,9 +1,8 @@
 -- The answer of `read_record`, and what it hands out. Definitions only.
-use Rattle.std.specs.Prelude.{◌≡◌, List, [], ℕ, length, Float}
+use Rattle.answer.specs.declared.Refusal.{Refusal}
+use Rattle.std.specs.Prelude.{◌≡◌, List, [], ℕ, length, Float, Result, Ok, Err}
 use Rattle.answer.specs.Answers.{number_of, first, room_for, lent_after}
 use Rattle.answer.specs.declared.Refusal.TheVariants as refusal
-use Rattle.answer.specs.declared.Answer.{Answer}
-use Rattle.answer.specs.declared.Answer.TheVariants as answer
 use Rattle.record_reader.specs.declared.Shown.{Shown}
 use Rattle.record_reader.specs.declared.Shown.TheVariants as shown
 use Rattle.record_reader.specs.Reading.{Reading}
@@ -21,9 +20,9 @@ b_in (Reading.Shows format s) = s.b
 b_in (Reading.WrongAt line) = []
 
 -- whether a record is read into lists with so many places: number 10, then 7, or done
-abbrev pub load_done : Reading → ℕ → ℕ → Answer
+abbrev pub load_done : Reading → ℕ → ℕ → Result Unit Refusal
 load_done (Reading.Shows format s) a b = first (room_for (length s.a) a) (room_for (length s.b) b)
-load_done (Reading.WrongAt line) a b = answer.Refused refusal.Form
+load_done (Reading.WrongAt line) a b = Err refusal.Form
 
 -- the answer where the lists have the places
 abbrev pub loaded_in : Reading → Loaded
@@ -31,9 +30,9 @@ loaded_in (Reading.Shows format s) = loaded.Is format s.fit s.wcs s.order
 loaded_in (Reading.WrongAt line) = loaded.Wrong line
 
 -- the answer after the room
-abbrev pub after_room : Answer → Loaded → Loaded
-after_room answer.Done l = l
-after_room (answer.Refused why) l = loaded.Refused why
+abbrev pub after_room : Result Unit Refusal → Loaded → Loaded
+after_room (Ok tt) l = l
+after_room (Err why) l = loaded.Refused why
 
 -- the answer of `read_record`: a solution, or the number of the first wrong line, or number 7
 abbrev pub load_answer : Reading → ℕ → ℕ → Loaded

@@ -6,7 +6,7 @@ ghost use Rattle.answer.specs.Answers.{first, room_for, written, lent_after};
 ghost use Rattle.record_reader.specs.Reading.{record_in};
 ghost use Rattle.record_load.specs.Load.{loaded_of, RecordLoaded, loaded_number};
 
-use answer::{Answer, Refusal};
+use answer::Refusal;
 use record_reader::Shown;
 use sip_terms::Sip;
 use wcs::Wcs;
@@ -53,30 +53,24 @@ fn hand_out(to: &mut [f64], from: &[f64])
 }
 
 // Whether both lists have the places.
-fn room_for_both(n: usize, m: usize, a: usize, b: usize) -> Answer
+fn room_for_both(n: usize, m: usize, a: usize, b: usize) -> Result<(), Refusal>
     ensures { result ≡ first (room_for n a) (room_for m b) }
 {
-    match answer::room_for(n, a) {
-        Answer::Refused(why) => Answer::Refused(why),
-        Answer::Done => answer::room_for(m, b),
-    }
+    answer::room_for(n, a)?;
+    answer::room_for(m, b)
 }
 
 // Hands both lists out, where they have the room.
-fn hand_both(xs: &[f64], ys: &[f64], a: &mut [f64], b: &mut [f64]) -> Answer
+fn hand_both(xs: &[f64], ys: &[f64], a: &mut [f64], b: &mut [f64]) -> Result<(), Refusal>
     ensures { (result ≡ first
         (room_for (length xs.now) (length a.old)) (room_for (length ys.now) (length b.old)))
         × (a.new ≡ lent_after result xs.now a.old)
         × (b.new ≡ lent_after result ys.now b.old) }
 {
-    match room_for_both(xs.len(), ys.len(), a.len(), b.len()) {
-        Answer::Refused(why) => Answer::Refused(why),
-        Answer::Done => {
-            hand_out(a, xs);
-            hand_out(b, ys);
-            Answer::Done
-        }
-    }
+    room_for_both(xs.len(), ys.len(), a.len(), b.len())?;
+    hand_out(a, xs);
+    hand_out(b, ys);
+    Ok(())
 }
 
 // Reads a record of any format: what it shows beside its coefficients is the answer, and those of each axis, one for each
@@ -91,7 +85,7 @@ pub fn read_record(text: &[u8], a: &mut [f64], b: &mut [f64]) -> Loaded
     // A text with a wrong line shows no coefficient.
     let n = shown.terms();
     match hand_both(&xs[..n], &ys[..n], a, b) {
-        Answer::Refused(why) => Loaded::Refused(why),
-        Answer::Done => Loaded::of(shown),
+        Err(why) => Loaded::Refused(why),
+        Ok(()) => Loaded::of(shown),
     }
 }

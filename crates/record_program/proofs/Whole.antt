@@ -1,4 +1,5 @@
 -- Laws of the whole program: what was read decides what is printed, and it has room. Assumes nothing.
+use Rattle.std.specs.Prelude.{Ok}
 use mathlib.Core.Path.{◌≡◌, refl, sym, ap, ◌∙◌}
 use mathlib.Core.Bool.{true}
 use mathlib.Core.List.{List, ◌++◌}
@@ -12,7 +13,6 @@ use Rattle.put.specs.Put.{Put, Room}
 use Rattle.put.proofs.Writing.{put_front, put_length}
 use Rattle.answer.specs.Answers.{first, room_for, written, lent_after}
 use Rattle.answer.specs.declared.Refusal.{Refusal}
-use Rattle.answer.specs.declared.Answer.TheVariants as answer
 use Rattle.wcs.specs.declared.Wcs.{Wcs}
 use Rattle.sip_terms.specs.declared.Sip.{Sip}
 use Rattle.sip_terms.specs.Terms.{term_count}
@@ -32,7 +32,7 @@ use Rattle.record_program.proofs.Texts.{shown_short}
 -- ---- what was read
 
 -- the lists of 18 places have room for every solution that the writer accepts
-room_enough : (s : Solution) → Passed s → first (room_for (length s.a) 18) (room_for (length s.b) 18) ≡ answer.Done
+room_enough : (s : Solution) → Passed s → first (room_for (length s.a) 18) (room_for (length s.b) 18) ≡ Ok tt
 room_enough s p =
     let k = checked s.fit s.wcs s.order (length s.a) (length s.b) p in
     rw (le-ltb 18 (length s.a) k.few_a, le-ltb 18 (length s.b) k.few_b)

@@ -29,11 +29,9 @@ fn put_numbers(buf: &mut [u8], at: usize, letter: u8, cs: &[f64]) -> usize
 {
     let mut m = at;
     let mut t = Term::first();
-    let mut i = 0usize;
-    while i < cs.len() {
-        m = put_number(buf, m, letter, t, cs[i]);
+    for c in cs {
+        m = put_number(buf, m, letter, t, *c);
         t = t.next();
-        i += 1;
     }
     m
 }

@@ -10,11 +10,10 @@ use lib.Ieee.{Float, binary64, of_bits, to_bits}
 use lib.Ieee.Bits.{to_bits-lt, of_bits-fits}
 use lib.ListN.{drop}
 use Rattle.text.specs.Lines.{float_line, decimal_line}
-use Rattle.scan_digits.specs.declared.Number.TheVariants as number
+use Rattle.std.proofs.Common.{Result, Ok, Err}
 use Rattle.scan_digits.specs.Read.{read_hex, read_decimal}
 use Rattle.scan_digits.proofs.Back.{is_same, is_right}
-use Rattle.scan.specs.declared.Place.{Place}
-use Rattle.scan.specs.declared.Place.TheVariants as place
+use Rattle.scan.specs.declared.Wrong.{Wrong}
 use Rattle.scan.specs.Read.{read_bytes}
 use Rattle.scan_fields.specs.Fields.{hex_field, decimal_field}
 use Rattle.scan_fields.proofs.Whole.{field_parts, float_line_back, float_line_read, decimal_line_back, decimal_line_read}
@@ -26,27 +25,27 @@ use Rattle.record_scan.specs.Slots.{may_show, line_for, blank_of, whole_at, bits
 -- ---- a step
 
 -- a line that does not stand, or that may not hold its number, is missed
-step_missed : (c : Spot) (must : Bool) (blank : ℕ) (ok : Bool) (value : ℕ) (found : Place) → ((q : ℕ) → ok ≡ true → found ≡ place.Next q → ⊥)
+step_missed : (c : Spot) (must : Bool) (blank : ℕ) (ok : Bool) (value : ℕ) (found : Result ℕ Wrong) → ((q : ℕ) → ok ≡ true → found ≡ Ok q → ⊥)
     → step_of c must blank ok value found ≡ missed_line c must blank
 step_missed c must blank ok value found = go c.good ok found where
-  go : (g o : Bool) (f : Place) → ((q : ℕ) → o ≡ true → f ≡ place.Next q → ⊥)
+  go : (g o : Bool) (f : Result ℕ Wrong) → ((q : ℕ) → o ≡ true → f ≡ Ok q → ⊥)
       → cond (g && o) (found_line c must blank value f) (missed_line c must blank) ≡ missed_line c must blank
-  go true true (place.Next q) h = absurd (h q refl refl)
-  go true true (place.Not q) h = refl
+  go true true (Ok q) h = absurd (h q refl refl)
+  go true true (Err w) h = refl
   go true false f h = refl
   go false o f h = refl
 
 -- a line that may not hold its number is missed
-step_barred : (c : Spot) (must : Bool) (blank value : ℕ) (found : Place) → step_of c must blank false value found ≡ missed_line c must blank
+step_barred : (c : Spot) (must : Bool) (blank value : ℕ) (found : Result ℕ Wrong) → step_of c must blank false value found ≡ missed_line c must blank
 step_barred c must blank value found =
     step_missed c must blank false value found (λ q o f. (let z : ◌≡◌ {A = ℕ} 0 1 = cc in omega arith))
 
 -- a step passes one line at most
-step_near : (c : Spot) (must : Bool) (blank : ℕ) (ok : Bool) (value : ℕ) (found : Place) → (step_of c must blank ok value found).next.line ≤ c.line + 1
+step_near : (c : Spot) (must : Bool) (blank : ℕ) (ok : Bool) (value : ℕ) (found : Result ℕ Wrong) → (step_of c must blank ok value found).next.line ≤ c.line + 1
 step_near c must blank ok value found = go (c.good && ok) found where
-  go : (b : Bool) (f : Place) → (cond b (found_line c must blank value f) (missed_line c must blank)).next.line ≤ c.line + 1
-  go true (place.Next p) = omega arith
-  go true (place.Not p) = omega arith
+  go : (b : Bool) (f : Result ℕ Wrong) → (cond b (found_line c must blank value f) (missed_line c must blank)).next.line ≤ c.line + 1
+  go true (Ok p) = omega arith
+  go true (Err w) = omega arith
   go false f = omega arith
 
 -- so does the line of a slot
@@ -60,7 +59,7 @@ slot_near k s c r e =
 -- ---- the line of a float
 
 -- the digits of a field that is read
-pub bits_read : (name end s : List ℕ) (p n q : ℕ) → hex_field name end s p ≡ number.Is n q → bits_at name s p ≡ n
+pub bits_read : (name end s : List ℕ) (p n q : ℕ) → hex_field name end s p ≡ Ok (n, q) → bits_at name s p ≡ n
 unfolding hex_field bits_at
 bits_read name end s p n q e =
     let f = field_parts name end s (λ (a : ℕ). read_hex 16 (drop a s) a 0) p n q e in
@@ -71,7 +70,7 @@ bits_fit : (n : ℕ) → to_bits binary64 (of_bits binary64 n) < 2 ^ 64
 bits_fit n = to_bits-lt binary64 (of_bits binary64 n) (of_bits-fits binary64 n)
 
 -- where no field is read, no line stands
-pub real_missed : (name s : List ℕ) (must : Bool) (test : Float → Bool) (c : Spot) (w : ℕ) → hex_field name (10 ∷ []) s c.at ≡ number.Wrong w
+pub real_missed : (name s : List ℕ) (must : Bool) (test : Float → Bool) (c : Spot) (w : Wrong) → hex_field name (10 ∷ []) s c.at ≡ Err w
     → missed_line c must 0 ≡ read_slot (record { name = name; kind = Kind.Real test; must = must }) s c
 unfolding read_slot
 real_missed name s must test c w e =
@@ -80,34 +79,34 @@ real_missed name s must test c w e =
     let m = to_bits binary64 x in
     sym
     (step_missed c must 0 (test x) n (read_bytes (float_line name m) (drop c.at s) c.at)
-    (λ q o f. is_right w m q (sym e ∙ float_line_read name s c.at m q (bits_fit n) f)))
+    (λ q o f. is_right w.at m q (sym e ∙ float_line_read name s c.at m q (bits_fit n) f)))
 
 -- where a field is read, the line of its float stands if the digits are that float's bits
 pub real_found : (name s : List ℕ) (must : Bool) (test : Float → Bool) (c : Spot) (bits next : ℕ) (x : Float) (m : ℕ) (ok : Bool)
-    → hex_field name (10 ∷ []) s c.at ≡ number.Is bits next → x ≡ of_bits binary64 bits → m ≡ to_bits binary64 x → ok ≡ test x
-    → step_of c must 0 (eqb m bits && ok) bits (place.Next next) ≡ read_slot (record { name = name; kind = Kind.Real test; must = must }) s c
+    → hex_field name (10 ∷ []) s c.at ≡ Ok (bits, next) → x ≡ of_bits binary64 bits → m ≡ to_bits binary64 x → ok ≡ test x
+    → step_of c must 0 (eqb m bits && ok) bits (Ok next) ≡ read_slot (record { name = name; kind = Kind.Real test; must = must }) s c
 unfolding read_slot
 real_found name s must test c bits next x m ok e ex em eo =
     rw (eo, bits_read name (10 ∷ []) s c.at bits next e, ← ex, ← em) (go (eqb m bits) refl) where
-      found : Place
+      found : Result ℕ Wrong
       found = read_bytes (float_line name m) (drop c.at s) c.at
 
       small : m < 2 ^ 64
       small = rw (em, ex) (bits_fit bits)
 
-      go : (b : Bool) → eqb m bits ≡ b → step_of c must 0 (b && test x) bits (place.Next next) ≡ step_of c must 0 (test x) bits found
+      go : (b : Bool) → eqb m bits ≡ b → step_of c must 0 (b && test x) bits (Ok next) ≡ step_of c must 0 (test x) bits found
       go true w =
-          let k : found ≡ place.Next next = rw (eqb-true m bits w) (float_line_back name s c.at bits next e).0 in
+          let k : found ≡ Ok next = rw (eqb-true m bits w) (float_line_back name s c.at bits next e).0 in
           ap (step_of c must 0 (test x) bits) (sym k)
       go false w =
-          step_barred c must 0 bits (place.Next next)
+          step_barred c must 0 bits (Ok next)
           ∙ sym (step_missed c must 0 (test x) bits found
           (λ q o f. eqb-false m bits w (is_same m q bits next (sym (float_line_read name s c.at m q small f) ∙ e)).0))
 
 -- ---- the line of a decimal number
 
 -- the number of a field that is read
-pub whole_read : (name end s : List ℕ) (p n q : ℕ) → decimal_field name end s p ≡ number.Is n q → whole_at name s p ≡ n
+pub whole_read : (name end s : List ℕ) (p n q : ℕ) → decimal_field name end s p ≡ Ok (n, q) → whole_at name s p ≡ n
 unfolding decimal_field whole_at
 whole_read name end s p n q e =
     let f = field_parts name end s (λ (a : ℕ). read_decimal (drop a s) a) p n q e in
@@ -126,39 +125,39 @@ within least most n = go (leb least n) (leb n most) refl refl where
   go false b ea eb h = let z : ◌≡◌ {A = ℕ} 0 1 = cc in absurd (omega arith)
 
 -- where no field is read, no line of a number up to the most stands
-pub whole_missed : (name s : List ℕ) (least most : ℕ) (c : Spot) (w : ℕ) → most < 4294967296 → decimal_field name (10 ∷ []) s c.at ≡ number.Wrong w
+pub whole_missed : (name s : List ℕ) (least most : ℕ) (c : Spot) (w : Wrong) → most < 4294967296 → decimal_field name (10 ∷ []) s c.at ≡ Err w
     → missed_line c true least ≡ read_slot (whole_slot name least most) s c
 unfolding read_slot
 whole_missed name s least most c w h e =
     let n = whole_at name s c.at in
     sym
     (step_missed c true least (leb least n && leb n most) n (read_bytes (decimal_line name n) (drop c.at s) c.at)
-    (λ q o f. is_right w n q (sym e ∙ decimal_line_read name s c.at n q (omega (arith, h, (within least most n o).1)) f)))
+    (λ q o f. is_right w.at n q (sym e ∙ decimal_line_read name s c.at n q (omega (arith, h, (within least most n o).1)) f)))
 
 -- where a field is read, the line of its number stands if the number is up to the most
-pub whole_found : (name s : List ℕ) (least most : ℕ) (c : Spot) (n next : ℕ) → most < 4294967296 → decimal_field name (10 ∷ []) s c.at ≡ number.Is n next
-    → step_of c true least (leb least n && leb n most) n (place.Next next) ≡ read_slot (whole_slot name least most) s c
+pub whole_found : (name s : List ℕ) (least most : ℕ) (c : Spot) (n next : ℕ) → most < 4294967296 → decimal_field name (10 ∷ []) s c.at ≡ Ok (n, next)
+    → step_of c true least (leb least n && leb n most) n (Ok next) ≡ read_slot (whole_slot name least most) s c
 unfolding read_slot
 whole_found name s least most c n next h e =
     rw (whole_read name (10 ∷ []) s c.at n next e) (go (leb least n && leb n most) (λ o. (within least most n o).1)) where
-      found : Place
+      found : Result ℕ Wrong
       found = read_bytes (decimal_line name n) (drop c.at s) c.at
 
-      go : (ok : Bool) → (ok ≡ true → n ≤ most) → step_of c true least ok n (place.Next next) ≡ step_of c true least ok n found
+      go : (ok : Bool) → (ok ≡ true → n ≤ most) → step_of c true least ok n (Ok next) ≡ step_of c true least ok n found
       go true w =
           ap (step_of c true least true n) (sym (decimal_line_back name s c.at n next (omega (arith, h, w refl)) e))
-      go false w = step_barred c true least n (place.Next next) ∙ sym (step_barred c true least n found)
+      go false w = step_barred c true least n (Ok next) ∙ sym (step_barred c true least n found)
 
 -- what a line of a decimal number gives is from its least to its most
-step_in : (c : Spot) (least most n : ℕ) (found : Place) → least ≤ most
+step_in : (c : Spot) (least most n : ℕ) (found : Result ℕ Wrong) → least ≤ most
     → Between least most (step_of c true least (leb least n && leb n most) n found).value
 step_in c least most n found h = go c.good (leb least n && leb n most) (within least most n) found where
-  go : (g ok : Bool) → (ok ≡ true → Between least most n) → (f : Place)
+  go : (g ok : Bool) → (ok ≡ true → Between least most n) → (f : Result ℕ Wrong)
       → Between least most (cond (g && ok) (found_line c true least n f) (missed_line c true least)).value
   go false ok w f = (omega arith, h)
   go true false w f = (omega arith, h)
-  go true true w (place.Next p) = w refl
-  go true true w (place.Not p) = (omega arith, h)
+  go true true w (Ok p) = w refl
+  go true true w (Err e) = (omega arith, h)
 
 -- what the line of a slot of decimal numbers gives, whole
 pub whole_near : (name s : List ℕ) (least most : ℕ) (c : Spot) (r : Line) → least ≤ most → r ≡ read_slot (whole_slot name least most) s c

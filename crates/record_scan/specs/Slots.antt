@@ -1,13 +1,10 @@
 -- How the lines of a table are read. A line is right where it is, byte for byte, the line that the writer puts for the number
 -- that stands in it. Definitions only.
-use Rattle.std.specs.Prelude.{Bool, true, cond, not, ◌&&◌, List, [], ◌∷◌, ℕ, ◌+◌, drop, Float}
+use Rattle.std.specs.Prelude.{Bool, true, cond, not, ◌&&◌, List, [], ◌∷◌, ℕ, ◌+◌, drop, Float, Result, Ok, Err}
 use Rattle.std.specs.Float.{binary64}
 use Rattle.std.specs.Float.Ieee.{of_bits}
-use Rattle.scan_digits.specs.declared.Number.{Number}
-use Rattle.scan_digits.specs.declared.Number.TheVariants as number
-use Rattle.scan_digits.specs.Read.{read_hex, read_decimal}
-use Rattle.scan.specs.declared.Place.{Place}
-use Rattle.scan.specs.declared.Place.TheVariants as place
+use Rattle.scan_digits.specs.Read.{Number, read_hex, read_decimal}
+use Rattle.scan.specs.declared.Wrong.{Wrong}
 use Rattle.scan.specs.Read.{read_bytes}
 use Rattle.domain.specs.Domain.{is_position, is_finite}
 use Rattle.sip_terms.specs.Terms.{is_kept}
@@ -54,13 +51,13 @@ blank_of (Kind.Real test) = 0
 
 -- the number that was read
 abbrev pub number_in : Number → ℕ
-number_in (number.Is n p) = n
-number_in (number.Wrong p) = 0
+number_in (Ok (n, p)) = n
+number_in (Err w) = 0
 
 -- the number after a name
-abbrev pub after_name : Place → (ℕ → Number) → ℕ
-after_name (place.Next p) read = number_in (read p)
-after_name (place.Not p) read = 0
+abbrev pub after_name : Result ℕ Wrong → (ℕ → Number) → ℕ
+after_name (Ok p) read = number_in (read p)
+after_name (Err w) read = 0
 
 -- the decimal number after a name that stands at a place of the text, and 0 where there is none
 unfoldable pub whole_at : List ℕ → List ℕ → ℕ → ℕ
@@ -82,12 +79,12 @@ abbrev pub missed_line : Spot → Bool → ℕ → Line
 missed_line c must blank = record { value = blank; next = record { at = c.at; line = c.line; good = c.good && not must } }
 
 -- a line that stands up to a place, or does not
-abbrev pub found_line : Spot → Bool → ℕ → ℕ → Place → Line
-found_line c must blank value (place.Next p) = record { value = value; next = record { at = p; line = c.line + 1; good = true } }
-found_line c must blank value (place.Not p) = missed_line c must blank
+abbrev pub found_line : Spot → Bool → ℕ → ℕ → Result ℕ Wrong → Line
+found_line c must blank value (Ok p) = record { value = value; next = record { at = p; line = c.line + 1; good = true } }
+found_line c must blank value (Err w) = missed_line c must blank
 
 -- a line whose number it may hold or not, and which stands or not
-abbrev pub step_of : Spot → Bool → ℕ → Bool → ℕ → Place → Line
+abbrev pub step_of : Spot → Bool → ℕ → Bool → ℕ → Result ℕ Wrong → Line
 step_of c must blank ok value found = cond (c.good && ok) (found_line c must blank value found) (missed_line c must blank)
 
 -- the line of a slot: its number is the one that stands there, and it is right where the writer's line for that number stands there

@@ -3,11 +3,9 @@
 #![tactic(auto)]
 
 ghost use Rattle.std.specs.Prelude.{◌≡◌, ◌+◌, ◌<◌, ◌≤◌};
-ghost use Rattle.scan.specs.declared.Place.TheVariants as place;
 ghost use Rattle.record_lines.specs.Table.{whole_slot, term_slot};
 ghost use Rattle.record_scan.specs.Slots.{test_of, real_slot, step_of, missed_line, read_slot};
 
-use scan_digits::Number;
 use sip_terms::Term;
 
 // Where the next line starts and its number; once a line was wrong, where that one starts.
@@ -65,7 +63,7 @@ fn missed(c: Spot, must: bool, blank: u64) -> Line
 // A line that stands up to a place, and may hold its number or not.
 fn step(c: Spot, must: bool, blank: u64, ok: bool, value: u64, next: usize) -> Line
     requires { c.line < 1000 }
-    ensures { result ≡ step_of c must blank ok value (place.Next next) }
+    ensures { result ≡ step_of c must blank ok value (Ok next) }
 {
     if !(c.good & ok) {
         return missed(c, must, blank);
@@ -87,8 +85,8 @@ pub fn whole_line(s: &[u8], c: Spot, name: &[u8], least: u64, most: u64) -> Line
         × (result.next.line ≤ c.line + 1) × (least ≤ result.value) × (result.value ≤ most) }
 {
     match scan_fields::decimal_field(s, c.at, name, b"\n") {
-        Number::Wrong(_) => missed(c, true, least),
-        Number::Is(n, next) => step(c, true, least, (least <= n) & (n <= most), n, next),
+        Err(_) => missed(c, true, least),
+        Ok((n, next)) => step(c, true, least, (least <= n) & (n <= most), n, next),
     }
 }
 
@@ -98,8 +96,8 @@ pub fn real_line(s: &[u8], c: Spot, name: &[u8], must: bool, test: Test) -> Line
     ensures { (result ≡ read_slot (real_slot name.now must test) s.now c) × (result.next.line ≤ c.line + 1) }
 {
     match scan_fields::hex_field(s, c.at, name, b"\n") {
-        Number::Wrong(_) => missed(c, must, 0),
-        Number::Is(bits, next) => {
+        Err(_) => missed(c, must, 0),
+        Ok((bits, next)) => {
             let x = scan_digits::of_bits(bits);
             // The writer puts one pattern for every NaN.
             let ok = (digits::bits_of(x) == bits) & test.holds(x);

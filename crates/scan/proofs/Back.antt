@@ -6,10 +6,10 @@ use Prim.Native.Nat.{ℕ, suc, ◌+◌}
 use native.Mathlib.Omega.{arith}
 use borrow.Author.Tests.{eqb-true}
 use lib.Dec.{eqb}
+use Rattle.std.proofs.Common.{Ok, Err}
 use lib.ListN.{length, length-append, drop}
 use lib.Seq.{drop_at, drop-drop}
-use Rattle.scan.specs.declared.Place.TheVariants.{Next, Not}
-use Rattle.scan.specs.Read.{read_bytes}
+use Rattle.scan.specs.Read.{wrong, read_bytes}
 use Rattle.scan.proofs.Round.{text_read}
 
 -- what is left from the place p on starts with a text that ends at q
@@ -17,13 +17,13 @@ abbrev pub Starts : List ℕ → List ℕ → ℕ → ℕ → Type 0
 Starts t l p q = (l ≡ t ++ drop (length t) l) × (q ≡ p + length t)
 
 -- bytes that are read stand there
-pub bytes_here : (t l : List ℕ) (p q : ℕ) → read_bytes t l p ≡ Next q → Starts t l p q
+pub bytes_here : (t l : List ℕ) (p q : ℕ) → read_bytes t l p ≡ Ok q → Starts t l p q
 unfolding read_bytes
 bytes_here [] l p q e = let h : p ≡ q = cc in (refl, omega arith)
 bytes_here (t ∷ ts) [] p q e = let z : ◌≡◌ {A = ℕ} 0 1 = cc in absurd (omega arith)
 bytes_here (t ∷ ts) (c ∷ cs) p q e = go (eqb c t) refl e (bytes_here ts cs (p + 1) q) where
-  go : (b : Bool) → eqb c t ≡ b → cond b (read_bytes ts cs (p + 1)) (Not p) ≡ Next q
-      → (read_bytes ts cs (p + 1) ≡ Next q → Starts ts cs (p + 1) q)
+  go : (b : Bool) → eqb c t ≡ b → cond b (read_bytes ts cs (p + 1)) (Err (wrong p)) ≡ Ok q
+      → (read_bytes ts cs (p + 1) ≡ Ok q → Starts ts cs (p + 1) q)
       → (c ∷ cs ≡ t ∷ (ts ++ drop (length ts) cs)) × (q ≡ p + suc (length ts))
   go true w f r =
       let h = r f in
@@ -48,12 +48,12 @@ starts_stands t s p q h =
     (h.0 ∙ ap (λ (l : List ℕ). t ++ l) d, h.1)
 
 -- a text that is read stands there
-pub read_stands : (t s : List ℕ) (p q : ℕ) → read_bytes t (drop p s) p ≡ Next q → Stands t s p q
+pub read_stands : (t s : List ℕ) (p q : ℕ) → read_bytes t (drop p s) p ≡ Ok q → Stands t s p q
 read_stands t s p q e = starts_stands t s p q (bytes_here t (drop p s) p q e)
 
 -- a text that stands there is read
-pub stands_read : (t s : List ℕ) (p q : ℕ) → Stands t s p q → read_bytes t (drop p s) p ≡ Next q
-stands_read t s p q h = rw h.0 (text_read t (drop q s) p ∙ ap Next (sym h.1))
+pub stands_read : (t s : List ℕ) (p q : ℕ) → Stands t s p q → read_bytes t (drop p s) p ≡ Ok q
+stands_read t s p q h = rw h.0 (text_read t (drop q s) p ∙ ap Ok (sym h.1))
 
 -- a text and one after it stand there as one
 pub stands_both : (t u s : List ℕ) (p q r : ℕ) → Stands t s p q → Stands u s q r → Stands (t ++ u) s p r

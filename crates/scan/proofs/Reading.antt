@@ -9,8 +9,8 @@ use borrow.Author.Tests.{eq-eqb, ne_eqb}
 use lib.Dec.{eqb}
 use lib.ListN.{length, get_or, drop, drop_of_length-le}
 use lib.Seq.{drop-cons}
-use Rattle.scan.specs.declared.Place.TheVariants.{Next, Not}
-use Rattle.scan.specs.Read.{read_bytes, line_end}
+use Rattle.std.proofs.Common.{Ok, Err}
+use Rattle.scan.specs.Read.{wrong, read_bytes, line_end}
 
 -- ---- these very bytes
 
@@ -22,18 +22,18 @@ bytes_more s t p i hp hi e =
     rw (drop-cons s p 0 hp, drop-cons t i 0 hi, eq-eqb (get_or s p 0) (get_or t i 0) e, add-one p, add-one i)
 
 -- the text ends too early
-pub bytes_short : (s t : List ℕ) (p i : ℕ) → length s ≤ p → i < length t → Not p ≡ read_bytes (drop i t) (drop p s) p
+pub bytes_short : (s t : List ℕ) (p i : ℕ) → length s ≤ p → i < length t → Err (wrong p) ≡ read_bytes (drop i t) (drop p s) p
 unfolding read_bytes
 bytes_short s t p i hp hi = rw (drop_of_length-le s {i = p} hp, drop-cons t i 0 hi)
 
 -- a byte is another
-pub bytes_wrong : (s t : List ℕ) (p i : ℕ) → p < length s → i < length t → (get_or s p 0 ≡ get_or t i 0 → ⊥) → Not p ≡ read_bytes (drop i t) (drop p s) p
+pub bytes_wrong : (s t : List ℕ) (p i : ℕ) → p < length s → i < length t → (get_or s p 0 ≡ get_or t i 0 → ⊥) → Err (wrong p) ≡ read_bytes (drop i t) (drop p s) p
 unfolding read_bytes
 bytes_wrong s t p i hp hi e =
     rw (drop-cons s p 0 hp, drop-cons t i 0 hi, ne_eqb (get_or s p 0) (get_or t i 0) e)
 
 -- all bytes are read
-pub bytes_end : (t l : List ℕ) (p i : ℕ) → length t ≤ i → Next p ≡ read_bytes (drop i t) l p
+pub bytes_end : (t l : List ℕ) (p i : ℕ) → length t ≤ i → Ok p ≡ read_bytes (drop i t) l p
 unfolding read_bytes
 bytes_end t l p i h = rw (drop_of_length-le t {i = i} h)
 

@@ -1,15 +1,14 @@
 -- Worked examples, each by computation.
-use Rattle.std.specs.Prelude.{◌≡◌, refl, [], ◌∷◌}
-use Rattle.scan.specs.declared.Place.TheVariants.{Next, Not}
-use Rattle.scan.specs.Read.{read_bytes, line_end}
+use Rattle.std.specs.Prelude.{◌≡◌, refl, [], ◌∷◌, Ok, Err}
+use Rattle.scan.specs.Read.{wrong, read_bytes, line_end}
 
 -- "k=3\n" starts with "k="
-reads_name : read_bytes (107 ∷ 61 ∷ []) (107 ∷ 61 ∷ 51 ∷ 10 ∷ []) 0 ≡ Next 2
+reads_name : read_bytes (107 ∷ 61 ∷ []) (107 ∷ 61 ∷ 51 ∷ 10 ∷ []) 0 ≡ Ok 2
 unfolding read_bytes
 reads_name = refl
 
 -- "k:3\n" does not: its second byte is another
-reads_not : read_bytes (107 ∷ 61 ∷ []) (107 ∷ 58 ∷ 51 ∷ 10 ∷ []) 0 ≡ Not 1
+reads_not : read_bytes (107 ∷ 61 ∷ []) (107 ∷ 58 ∷ 51 ∷ 10 ∷ []) 0 ≡ Err (wrong 1)
 unfolding read_bytes
 reads_not = refl
 

@@ -4,42 +4,37 @@
 ghost use Rattle.std.specs.Prelude.{◌≡◌, drop};
 ghost use Rattle.scan.specs.Read.{read_bytes, line_end};
 
-// The place after what was looked for, or the place of the first byte that differs.
+// The place of the first byte that is not what was looked for.
 #[derive(Clone, Copy)]
-pub enum Place {
-    Next(usize),
-    Not(usize),
+pub struct Wrong {
+    pub at: usize,
 }
 
-// Reads these very bytes.
-pub fn read_bytes(s: &[u8], at: usize, t: &[u8]) -> Place
+// Reads these very bytes, and returns the place after them.
+pub fn read_bytes(s: &[u8], at: usize, t: &[u8]) -> Result<usize, Wrong>
     ensures { result ≡ read_bytes t.now (drop at s.now) at }
 {
     let mut p = at;
-    let mut i = 0usize;
-    while i < t.len() {
+    for b in t {
         if s.len() <= p {
-            return Place::Not(p);
+            return Err(Wrong { at: p });
         }
-        if s[p] != t[i] {
-            return Place::Not(p);
+        if s[p] != *b {
+            return Err(Wrong { at: p });
         }
         p += 1;
-        i += 1;
     }
-    Place::Next(p)
+    Ok(p)
 }
 
 // The place of the first newline at or after a place, or of the end of the text.
 pub fn line_end(s: &[u8], at: usize) -> usize
     ensures { result ≡ line_end (drop at s.now) at }
 {
-    let mut p = at;
-    while p < s.len() {
+    for p in at..s.len() {
         if s[p] == 10 {
             return p;
         }
-        p += 1;
     }
-    p
+    at.max(s.len())
 }

@@ -11,15 +11,18 @@ use lib.Pow.{pow-add}
 use lib.ListN.{length, length-append, drop}
 use Rattle.digits.specs.Digits.{hex_of, hex_from, decimal_of}
 use Rattle.digits.proofs.Decimal.{decimal_one, decimal_more}
-use Rattle.scan_digits.specs.declared.Number.TheVariants.{Is, Wrong}
-use Rattle.scan_digits.specs.Read.{hex_value, read_hex, decimal_value, held, more_decimal, read_decimal}
+use Rattle.std.proofs.Common.{Ok, Err}
+use Rattle.scan.specs.Read.{wrong}
+use Rattle.scan_digits.specs.Read.{Number, hex_value, read_hex, decimal_value, held, more_decimal, read_decimal}
 
 -- both parts of a number that is read
-pub is_same : (m p n q : ℕ) → Is m p ≡ Is n q → (m ≡ n) × (p ≡ q)
-is_same m p n q e = (cc, cc)
+pub is_same : (m p n q : ℕ) → ◌≡◌ {A = Number} (Ok (m, p)) (Ok (n, q)) → (m ≡ n) × (p ≡ q)
+is_same m p n q e =
+    let h : ◌≡◌ {A = ℕ × ℕ} (m, p) (n, q) = cc in
+    (ap (λ (x : ℕ × ℕ). x.0) h, ap (λ (x : ℕ × ℕ). x.1) h)
 
 -- a wrong byte is no number that is read
-pub is_right : (p n q : ℕ) → Wrong p ≡ Is n q → ⊥
+pub is_right : (p n q : ℕ) → ◌≡◌ {A = Number} (Err (wrong p)) (Ok (n, q)) → ⊥
 is_right p n q e = let z : ◌≡◌ {A = ℕ} 0 1 = cc in omega arith
 
 -- ---- hexadecimal digits
@@ -40,7 +43,7 @@ hex_digit_back c = go (ltb c 48) (ltb c 58) (ltb c 97) (ltb c 103) refl refl ref
   go false false false false ew ex ey ez h = absurd (omega (arith, h))
 
 -- k digits that are read after those of acc are the lowest k of the number, and the others are acc
-hex_back : (k : ℕ) (l : List ℕ) (p acc n q : ℕ) → read_hex k l p acc ≡ Is n q
+hex_back : (k : ℕ) (l : List ℕ) (p acc n q : ℕ) → read_hex k l p acc ≡ Ok (n, q)
     → (l ≡ hex_from k n ++ drop k l) × (n / 2 ^ (4 * k) ≡ acc) × (q ≡ p + k)
 unfolding read_hex hex_from
 hex_back zero l p acc n q e =
@@ -48,8 +51,8 @@ hex_back zero l p acc n q e =
     (refl, div-one n ∙ sym h.0, omega (arith, h.1))
 hex_back (suc k) [] p acc n q e = absurd (is_right p n q e)
 hex_back (suc k) (c ∷ cs) p acc n q e = go (ltb (hex_value c) 16) refl e (hex_back k cs (p + 1) (acc * 16 + hex_value c) n q) where
-  go : (b : Bool) → ltb (hex_value c) 16 ≡ b → cond b (read_hex k cs (p + 1) (acc * 16 + hex_value c)) (Wrong p) ≡ Is n q
-      → (read_hex k cs (p + 1) (acc * 16 + hex_value c) ≡ Is n q
+  go : (b : Bool) → ltb (hex_value c) 16 ≡ b → cond b (read_hex k cs (p + 1) (acc * 16 + hex_value c)) (Err (wrong p)) ≡ Ok (n, q)
+      → (read_hex k cs (p + 1) (acc * 16 + hex_value c) ≡ Ok (n, q)
       → (cs ≡ hex_from k n ++ drop k cs) × (n / 2 ^ (4 * k) ≡ acc * 16 + hex_value c) × (q ≡ p + 1 + k))
       → (c ∷ cs ≡ hex_of (n / 2 ^ (4 * k) % 16) ∷ (hex_from k n ++ drop k cs)) × (n / 2 ^ (4 * suc k) ≡ acc) × (q ≡ p + suc k)
   go true w f r =
@@ -65,7 +68,7 @@ hex_back (suc k) (c ∷ cs) p acc n q e = go (ltb (hex_value c) 16) refl e (hex_
   go false w f r = absurd (is_right p n q f)
 
 -- 16 digits that are read are those of a number of 64 bits
-pub hex16_back : (l : List ℕ) (p n q : ℕ) → read_hex 16 l p 0 ≡ Is n q
+pub hex16_back : (l : List ℕ) (p n q : ℕ) → read_hex 16 l p 0 ≡ Ok (n, q)
     → (l ≡ hex_from 16 n ++ drop 16 l) × (n < 2 ^ 64) × (q ≡ p + 16)
 hex16_back l p n q e =
     let h = hex_back 16 l p 0 n q e in
@@ -106,14 +109,14 @@ held_grows acc d h = go (ltb 4294967296 (acc * 10 + d)) where
   go false = omega arith
 
 -- further digits make no smaller number
-more_grows : (l : List ℕ) (p acc n q : ℕ) → acc ≤ 4294967296 → more_decimal l p acc ≡ Is n q → acc ≤ n
+more_grows : (l : List ℕ) (p acc n q : ℕ) → acc ≤ 4294967296 → more_decimal l p acc ≡ Ok (n, q) → acc ≤ n
 unfolding more_decimal
 more_grows [] p acc n q h e = omega (arith, (is_same acc p n q e).0)
 more_grows (c ∷ cs) p acc n q h e =
     let a = held (acc * 10 + decimal_value c) in
     go (ltb (decimal_value c) 10) e (more_grows cs (p + 1) a n q (held_most (acc * 10 + decimal_value c))) where
-      go : (b : Bool) → cond b (more_decimal cs (p + 1) (held (acc * 10 + decimal_value c))) (Is acc p) ≡ Is n q
-          → (more_decimal cs (p + 1) (held (acc * 10 + decimal_value c)) ≡ Is n q → held (acc * 10 + decimal_value c) ≤ n)
+      go : (b : Bool) → cond b (more_decimal cs (p + 1) (held (acc * 10 + decimal_value c))) (Ok (acc, p)) ≡ Ok (n, q)
+          → (more_decimal cs (p + 1) (held (acc * 10 + decimal_value c)) ≡ Ok (n, q) → held (acc * 10 + decimal_value c) ≤ n)
           → acc ≤ n
       go true f r = omega (arith, r f, held_grows acc (decimal_value c) h)
       go false f r = omega (arith, (is_same acc p n q f).0)
@@ -132,7 +135,7 @@ After l p acc n q =
     (decimal_of acc ++ l ≡ decimal_of n ++ drop (q - p) l) × (p ≤ q) × (length (decimal_of n) ≡ length (decimal_of acc) + (q - p))
 
 -- no further digit is read
-none_after : (l : List ℕ) (p acc n q : ℕ) → Is acc p ≡ Is n q → After l p acc n q
+none_after : (l : List ℕ) (p acc n q : ℕ) → ◌≡◌ {A = Number} (Ok (acc, p)) (Ok (n, q)) → After l p acc n q
 none_after l p acc n q e =
     let s = is_same acc p n q e in
     let k : q - p ≡ 0 = omega (arith, s.1) in
@@ -148,7 +151,7 @@ one_after c cs p acc d n q e x h =
     (rw (k, ← x) (sym u ∙ ap (λ (l : List ℕ). l ++ cs) (sym e) ∙ h.0), omega (arith, h.1), omega (arith, h.1, h.2, m))
 
 -- the digits that are read after those of acc, a number above 0, are the digits of a number below 2 ^ 32
-more_back : (l : List ℕ) (p acc n q : ℕ) → 0 < acc → acc ≤ 4294967296 → more_decimal l p acc ≡ Is n q → n < 4294967296 → After l p acc n q
+more_back : (l : List ℕ) (p acc n q : ℕ) → 0 < acc → acc ≤ 4294967296 → more_decimal l p acc ≡ Ok (n, q) → n < 4294967296 → After l p acc n q
 unfolding more_decimal
 more_back [] p acc n q z h e t = none_after [] p acc n q e
 more_back (c ∷ cs) p acc n q z h e t =
@@ -156,15 +159,15 @@ more_back (c ∷ cs) p acc n q z h e t =
       d : ℕ
       d = decimal_value c
 
-      go : (b : Bool) → ltb d 10 ≡ b → cond b (more_decimal cs (p + 1) (held (acc * 10 + d))) (Is acc p) ≡ Is n q
-          → ((a : ℕ) → (0 < a) × (a ≤ 4294967296) → more_decimal cs (p + 1) a ≡ Is n q → After cs (p + 1) a n q)
+      go : (b : Bool) → ltb d 10 ≡ b → cond b (more_decimal cs (p + 1) (held (acc * 10 + d))) (Ok (acc, p)) ≡ Ok (n, q)
+          → ((a : ℕ) → (0 < a) × (a ≤ 4294967296) → more_decimal cs (p + 1) a ≡ Ok (n, q) → After cs (p + 1) a n q)
           → After (c ∷ cs) p acc n q
       go true w f r =
           let a = acc * 10 + d in
           let v : d < 10 = ltb-true d 10 w in
           let g : held a ≤ n = more_grows cs (p + 1) (held a) n q (held_most a) f in
           let k : held a ≡ a = held_is a (omega (arith, g, t)) in
-          let f' : more_decimal cs (p + 1) a ≡ Is n q = ap (more_decimal cs (p + 1)) (sym k) ∙ f in
+          let f' : more_decimal cs (p + 1) a ≡ Ok (n, q) = ap (more_decimal cs (p + 1)) (sym k) ∙ f in
           one_after c cs p acc d n q (one_more acc d z (omega (arith, g, k, t)) v) (decimal_digit_back c v) (r a (omega (arith, z), omega (arith, g, k, t)) f')
       go false w f r = none_after (c ∷ cs) p acc n q f
 
@@ -173,7 +176,7 @@ abbrev pub Written : ℕ → List ℕ → ℕ → ℕ → Type 0
 Written n l p q = (l ≡ decimal_of n ++ drop (length (decimal_of n)) l) × (q ≡ p + length (decimal_of n))
 
 -- the number 0 is written by one digit
-zero_back : (c : ℕ) (cs : List ℕ) (p n q : ℕ) → decimal_value c < 10 → decimal_value c ≡ 0 → Is 0 (p + 1) ≡ Is n q
+zero_back : (c : ℕ) (cs : List ℕ) (p n q : ℕ) → decimal_value c < 10 → decimal_value c ≡ 0 → ◌≡◌ {A = Number} (Ok (0, p + 1)) (Ok (n, q))
     → Written n (c ∷ cs) p q
 zero_back c cs p n q v z e =
     let s = is_same 0 (p + 1) n q e in
@@ -182,7 +185,7 @@ zero_back c cs p n q v z e =
     rw (k, ← x) (refl, omega (arith, s.1))
 
 -- a number above 0 is written by its first digit and those that follow it
-above_back : (c : ℕ) (cs : List ℕ) (p n q : ℕ) → decimal_value c < 10 → (decimal_value c ≡ 0 → ⊥) → more_decimal cs (p + 1) (decimal_value c) ≡ Is n q → n < 4294967296
+above_back : (c : ℕ) (cs : List ℕ) (p n q : ℕ) → decimal_value c < 10 → (decimal_value c ≡ 0 → ⊥) → more_decimal cs (p + 1) (decimal_value c) ≡ Ok (n, q) → n < 4294967296
     → Written n (c ∷ cs) p q
 above_back c cs p n q v z e t =
     let d = decimal_value c in
@@ -194,12 +197,12 @@ above_back c cs p n q v z e t =
     (rw m u, omega (arith, m, h.1))
 
 -- a decimal number below 2 ^ 32 that is read is the one that is written for it
-pub decimal_back : (l : List ℕ) (p n q : ℕ) → read_decimal l p ≡ Is n q → n < 4294967296 → Written n l p q
+pub decimal_back : (l : List ℕ) (p n q : ℕ) → read_decimal l p ≡ Ok (n, q) → n < 4294967296 → Written n l p q
 unfolding read_decimal
 decimal_back [] p n q e t = absurd (is_right p n q e)
 decimal_back (c ∷ cs) p n q e t = go (ltb (decimal_value c) 10) (eqb (decimal_value c) 0) refl refl e where
   go : (b z : Bool) → ltb (decimal_value c) 10 ≡ b → eqb (decimal_value c) 0 ≡ z
-      → cond b (cond z (Is 0 (p + 1)) (more_decimal cs (p + 1) (decimal_value c))) (Wrong p) ≡ Is n q
+      → cond b (cond z (Ok (0, p + 1)) (more_decimal cs (p + 1) (decimal_value c))) (Err (wrong p)) ≡ Ok (n, q)
       → Written n (c ∷ cs) p q
   go true true w x f = zero_back c cs p n q (ltb-true (decimal_value c) 10 w) (eqb-true (decimal_value c) 0 x) f
   go true false w x f = above_back c cs p n q (ltb-true (decimal_value c) 10 w) (eqb-false (decimal_value c) 0 x) f t

@@ -11,7 +11,8 @@ use lib.Pow.{pow-add, pow_mono}
 use lib.Ieee.{nan, binary64, of_bits, of_fields, nan_bits}
 use lib.ListN.{length, get_or, drop, drop_of_length-le}
 use lib.Seq.{drop-cons}
-use Rattle.scan_digits.specs.declared.Number.TheVariants.{Is, Wrong}
+use Rattle.std.proofs.Common.{Ok, Err}
+use Rattle.scan.specs.Read.{wrong}
 use Rattle.scan_digits.specs.Read.{hex_value, read_hex, decimal_value, held, more_decimal, read_decimal}
 
 -- ---- hexadecimal digits
@@ -26,22 +27,21 @@ hex_more s i p acc d hi hp e hd =
     rw (k, drop-cons s p 0 hp, lt-ltb (hex_value (get_or s p 0)) 16 t, add-one p, e)
 
 -- the text ends where a digit is due
-pub hex_short : (s : List ℕ) (i p acc : ℕ) → i < 16 → length s ≤ p → Wrong p ≡ read_hex (16 - i) (drop p s) p acc
+pub hex_short : (s : List ℕ) (i p acc : ℕ) → i < 16 → length s ≤ p → Err (wrong p) ≡ read_hex (16 - i) (drop p s) p acc
 unfolding read_hex
 hex_short s i p acc hi hp =
     let k : 16 - i ≡ suc (16 - (i + 1)) = omega arith in
     rw (k, drop_of_length-le s {i = p} hp)
 
 -- another byte stands where a digit is due
-pub hex_wrong : (s : List ℕ) (i p acc d : ℕ) → i < 16 → p < length s → d ≡ hex_value (get_or s p 0) → 16 ≤ d → Wrong p ≡ read_hex (16 - i) (drop p s) p acc
+pub hex_wrong : (s : List ℕ) (i p acc : ℕ) → i < 16 → p < length s → 16 ≤ hex_value (get_or s p 0) → Err (wrong p) ≡ read_hex (16 - i) (drop p s) p acc
 unfolding read_hex
-hex_wrong s i p acc d hi hp e hd =
+hex_wrong s i p acc hi hp t =
     let k : 16 - i ≡ suc (16 - (i + 1)) = omega arith in
-    let t : 16 ≤ hex_value (get_or s p 0) = omega (arith, e, hd) in
     rw (k, drop-cons s p 0 hp, le-ltb (hex_value (get_or s p 0)) 16 t)
 
 -- all digits are read
-pub hex_done : (l : List ℕ) (i p acc : ℕ) → 16 ≤ i → Is acc p ≡ read_hex (16 - i) l p acc
+pub hex_done : (l : List ℕ) (i p acc : ℕ) → 16 ≤ i → Ok (acc, p) ≡ read_hex (16 - i) l p acc
 unfolding read_hex
 hex_done l i p acc h = let k : 16 - i ≡ 0 = omega arith in rw k
 
@@ -69,34 +69,31 @@ decimal_next s p acc d r hp e hd er =
     rw (drop-cons s p 0 hp, lt-ltb (decimal_value (get_or s p 0)) 10 t, add-one p, ← e, er)
 
 -- another byte ends the number
-pub decimal_stop : (s : List ℕ) (p acc d : ℕ) → p < length s → d ≡ decimal_value (get_or s p 0) → 10 ≤ d → Is acc p ≡ more_decimal (drop p s) p acc
+pub decimal_stop : (s : List ℕ) (p acc : ℕ) → p < length s → 10 ≤ decimal_value (get_or s p 0) → Ok (acc, p) ≡ more_decimal (drop p s) p acc
 unfolding more_decimal
-decimal_stop s p acc d hp e hd =
-    let t : 10 ≤ decimal_value (get_or s p 0) = omega (arith, e, hd) in
+decimal_stop s p acc hp t =
     rw (drop-cons s p 0 hp, le-ltb (decimal_value (get_or s p 0)) 10 t)
 
 -- the text's end ends the number
-pub decimal_end : (s : List ℕ) (p acc : ℕ) → length s ≤ p → Is acc p ≡ more_decimal (drop p s) p acc
+pub decimal_end : (s : List ℕ) (p acc : ℕ) → length s ≤ p → Ok (acc, p) ≡ more_decimal (drop p s) p acc
 unfolding more_decimal
 decimal_end s p acc hp = rw (drop_of_length-le s {i = p} hp)
 
 -- the text ends where the first digit is due
-pub decimal_none : (s : List ℕ) (p : ℕ) → length s ≤ p → Wrong p ≡ read_decimal (drop p s) p
+pub decimal_none : (s : List ℕ) (p : ℕ) → length s ≤ p → Err (wrong p) ≡ read_decimal (drop p s) p
 unfolding read_decimal
 decimal_none s p hp = rw (drop_of_length-le s {i = p} hp)
 
 -- another byte stands where the first digit is due
-pub decimal_wrong : (s : List ℕ) (p d : ℕ) → p < length s → d ≡ decimal_value (get_or s p 0) → 10 ≤ d → Wrong p ≡ read_decimal (drop p s) p
+pub decimal_wrong : (s : List ℕ) (p : ℕ) → p < length s → 10 ≤ decimal_value (get_or s p 0) → Err (wrong p) ≡ read_decimal (drop p s) p
 unfolding read_decimal
-decimal_wrong s p d hp e hd =
-    let t : 10 ≤ decimal_value (get_or s p 0) = omega (arith, e, hd) in
+decimal_wrong s p hp t =
     rw (drop-cons s p 0 hp, le-ltb (decimal_value (get_or s p 0)) 10 t)
 
 -- the first digit is 0
-pub decimal_zero : (s : List ℕ) (p d : ℕ) → p < length s → d ≡ decimal_value (get_or s p 0) → d ≡ 0 → Is 0 (p + 1) ≡ read_decimal (drop p s) p
+pub decimal_zero : (s : List ℕ) (p : ℕ) → p < length s → decimal_value (get_or s p 0) ≡ 0 → Ok (0, p + 1) ≡ read_decimal (drop p s) p
 unfolding read_decimal
-decimal_zero s p d hp e z =
-    let t : decimal_value (get_or s p 0) ≡ 0 = sym e ∙ z in
+decimal_zero s p hp t =
     rw (drop-cons s p 0 hp, t)
 
 -- the first digit is another one

@@ -10,7 +10,7 @@ use lib.Dec.{ltb, lit<}
 use lib.Pow.{pow-add, pow_pos}
 use lib.Arith.{mod-mul}
 use lib.ListN.{length, length-append}
-use Rattle.scan_digits.specs.declared.Number.TheVariants.{Is}
+use Rattle.std.proofs.Common.{Ok}
 use Rattle.digits.specs.Digits.{hex_of, hex_from, decimal_from, decimal_of}
 use Rattle.scan_digits.specs.Read.{hex_value, read_hex, decimal_value, held, more_decimal, read_decimal}
 use Rattle.digits.proofs.Decimal.{from_one, from_more, tenth}
@@ -42,11 +42,11 @@ spread : (a d n r : ℕ) → (a * 16 + d) * n + r ≡ a * (16 * n) + (d * n + r)
 spread a d n r = omega (arith, add-mul (a * 16) d n, mul_assoc a 16 n)
 
 -- k digits of n, read after those of acc
-pub hex_read : (k n : ℕ) (ys : List ℕ) (p acc : ℕ) → read_hex k (hex_from k n ++ ys) p acc ≡ Is (acc * 2 ^ (4 * k) + n % 2 ^ (4 * k)) (p + k)
+pub hex_read : (k n : ℕ) (ys : List ℕ) (p acc : ℕ) → read_hex k (hex_from k n ++ ys) p acc ≡ Ok (acc * 2 ^ (4 * k) + n % 2 ^ (4 * k), p + k)
 unfolding read_hex hex_from
 hex_read zero n ys p acc =
     let e : acc ≡ acc * 1 + n % 1 = omega arith in
-    λ i. Is (e i) (sym (add-zero p) i)
+    λ i. Ok (e i, sym (add-zero p) i)
 hex_read (suc k) n ys p acc =
     let d = n / 2 ^ (4 * k) % 16 in
     let N = 2 ^ (4 * k) in
@@ -56,13 +56,13 @@ hex_read (suc k) n ys p acc =
     let m : n % (16 * N) ≡ d * N + n % N = mod-mul n (lit< tt) (pow_pos (4 * k)) in
     let g : p + 1 + k ≡ p + suc k = omega arith in
     rw (hex_digit_read d small, lt-ltb d 16 small)
-    (hex_read k n ys (p + 1) (acc * 16 + d) ∙ rw (f, m, g) (ap (λ (v : ℕ). Is v (p + suc k)) (spread acc d N (n % N))))
+    (hex_read k n ys (p + 1) (acc * 16 + d) ∙ rw (f, m, g) (ap (λ (v : ℕ). Ok (v, p + suc k)) (spread acc d N (n % N))))
 
 -- 16 digits of a number of 64 bits
-pub hex16_read : (n : ℕ) (ys : List ℕ) (p : ℕ) → n < 2 ^ 64 → read_hex 16 (hex_from 16 n ++ ys) p 0 ≡ Is n (p + 16)
+pub hex16_read : (n : ℕ) (ys : List ℕ) (p : ℕ) → n < 2 ^ 64 → read_hex 16 (hex_from 16 n ++ ys) p 0 ≡ Ok (n, p + 16)
 hex16_read n ys p h =
     let z : 0 * 2 ^ 64 + n % 2 ^ 64 ≡ n = omega (arith, mod-eq_of_lt h) in
-    hex_read 16 n ys p 0 ∙ ap (λ (v : ℕ). Is v (p + 16)) z
+    hex_read 16 n ys p 0 ∙ ap (λ (v : ℕ). Ok (v, p + 16)) z
 
 -- ---- decimal digits
 
@@ -96,7 +96,7 @@ unfolding more_decimal
 more_digit d p acc l h = rw (decimal_digit_read d h, lt-ltb d 10 h)
 
 -- a byte that is no digit
-more_stop : (c p acc : ℕ) (ys : List ℕ) → decimal_value c ≡ 10 → more_decimal (c ∷ ys) p acc ≡ Is acc p
+more_stop : (c p acc : ℕ) (ys : List ℕ) → decimal_value c ≡ 10 → more_decimal (c ∷ ys) p acc ≡ Ok (acc, p)
 unfolding more_decimal
 more_stop c p acc ys h = rw h
 
@@ -126,13 +126,13 @@ digits_read (suc k) n ys p z g =
           (last_digit (decimal_from (suc k) (n / 10)) ys n p (f (ltb-false n 10 e)))
 
 -- the number 0
-one_zero : (c p : ℕ) (ys : List ℕ) → read_decimal (decimal_of 0 ++ (c ∷ ys)) p ≡ Is 0 (p + length (decimal_of 0))
+one_zero : (c p : ℕ) (ys : List ℕ) → read_decimal (decimal_of 0 ++ (c ∷ ys)) p ≡ Ok (0, p + length (decimal_of 0))
 unfolding read_decimal decimal_value decimal_of decimal_from
 one_zero c p ys = refl
 
 -- a number of 64 bits before a byte that is no digit is read as it is held
 pub decimal_held : (n c p : ℕ) (ys : List ℕ) → n < 2 ^ 64 → decimal_value c ≡ 10
-    → read_decimal (decimal_of n ++ (c ∷ ys)) p ≡ Is (held n) (p + length (decimal_of n))
+    → read_decimal (decimal_of n ++ (c ∷ ys)) p ≡ Ok (held n, p + length (decimal_of n))
 unfolding decimal_of
 decimal_held zero c p ys h g = one_zero c p ys
 decimal_held (suc n) c p ys h g =
@@ -141,6 +141,6 @@ decimal_held (suc n) c p ys h g =
 
 -- a number up to 2 ^ 32 before a byte that is no digit is read back
 pub decimal_read : (n c p : ℕ) (ys : List ℕ) → n ≤ 4294967296 → decimal_value c ≡ 10
-    → read_decimal (decimal_of n ++ (c ∷ ys)) p ≡ Is n (p + length (decimal_of n))
+    → read_decimal (decimal_of n ++ (c ∷ ys)) p ≡ Ok (n, p + length (decimal_of n))
 decimal_read n c p ys h g =
-    decimal_held n c p ys (omega (arith, h)) g ∙ ap (λ (v : ℕ). Is v (p + length (decimal_of n))) (held_small n h)
+    decimal_held n c p ys (omega (arith, h)) g ∙ ap (λ (v : ℕ). Ok (v, p + length (decimal_of n))) (held_small n h)

@@ -1,70 +1,53 @@
 // Numbers read from a slice, at a place.
 #![tactic(auto)]
 
-ghost use Rattle.std.specs.Prelude.{◌≡◌, ◌≤◌, drop};
+ghost use Rattle.std.specs.Prelude.{◌≡◌, ◌<◌, ◌≤◌, drop, MatchOption};
 ghost use Rattle.std.specs.Float.Ieee.{of_bits};
 ghost use Rattle.std.specs.Float.{binary64};
 ghost use Rattle.scan_digits.specs.Read.{hex_value, read_hex, decimal_value, held, more_decimal, read_decimal};
 
-// The value of a number and the place after it, or the place of the first wrong byte.
-#[derive(Clone, Copy)]
-pub enum Number {
-    Is(u64, usize),
-    Wrong(usize),
-}
+use scan::Wrong;
 
-// The value of a lowercase hexadecimal digit, and 16 for any other byte.
-fn hex_value(b: u8) -> u64
-    ensures { (result ≡ hex_value b) × (result ≤ 16) }
+// The value of a lowercase hexadecimal digit.
+#[tactic(auto, unfolding(crate::specs::Read::hex_value))]
+fn hex_value(b: u8) -> Option<u64>
+    ensures { MatchOption result (16 ≤ hex_value b) (λ d. (d ≡ hex_value b) × (d < 16)) }
 {
-    if b < 48 {
-        return 16;
+    match b {
+        b'0'..=b'9' => Some((b - b'0') as u64),
+        b'a'..=b'f' => Some((b - b'a' + 10) as u64),
+        _ => None,
     }
-    if b < 58 {
-        return (b - 48) as u64;
-    }
-    if b < 97 {
-        return 16;
-    }
-    if b < 103 {
-        return (b - 87) as u64;
-    }
-    16
 }
 
-// Reads 16 lowercase hexadecimal digits.
-pub fn read_hex(s: &[u8], at: usize) -> Number
+// Reads 16 lowercase hexadecimal digits, and returns their number and the place after them.
+pub fn read_hex(s: &[u8], at: usize) -> Result<(u64, usize), Wrong>
     ensures { result ≡ read_hex 16 (drop at s.now) at 0 }
 {
     let mut p = at;
     let mut acc = 0u64;
-    let mut i = 0usize;
-    while i < 16 {
+    for _ in 0..16usize {
         if s.len() <= p {
-            return Number::Wrong(p);
+            return Err(Wrong { at: p });
         }
-        let d = hex_value(s[p]);
-        if 16 <= d {
-            return Number::Wrong(p);
-        }
+        let Some(d) = hex_value(s[p]) else {
+            return Err(Wrong { at: p });
+        };
         acc = acc * 16 + d;
         p += 1;
-        i += 1;
     }
-    Number::Is(acc, p)
+    Ok((acc, p))
 }
 
-// The value of a decimal digit, and 10 for any other byte.
-fn decimal_value(b: u8) -> u64
-    ensures { (result ≡ decimal_value b) × (result ≤ 10) }
+// The value of a decimal digit.
+#[tactic(auto, unfolding(crate::specs::Read::decimal_value))]
+fn decimal_value(b: u8) -> Option<u64>
+    ensures { MatchOption result (10 ≤ decimal_value b) (λ d. (d ≡ decimal_value b) × (d < 10)) }
 {
-    if b < 48 {
-        return 10;
+    match b {
+        b'0'..=b'9' => Some((b - b'0') as u64),
+        _ => None,
     }
-    if b < 58 {
-        return (b - 48) as u64;
-    }
-    10
 }
 
 // The number, held at 2 to the 32.
@@ -77,39 +60,33 @@ fn held_at(n: u64) -> u64
     n
 }
 
-// Reads the digits that follow those of `first`.
-fn more_decimal(s: &[u8], at: usize, first: u64) -> Number
+// Reads the digits that follow those of `first`, and returns the number and the place after it.
+fn more_decimal(s: &[u8], at: usize, first: u64) -> (u64, usize)
     requires { first ≤ 4294967296 }
-    ensures { result ≡ more_decimal (drop at s.now) at first }
+    ensures { Ok result ≡ more_decimal (drop at s.now) at first }
 {
-    let mut p = at;
     let mut acc = first;
-    while p < s.len() {
-        let d = decimal_value(s[p]);
-        if 10 <= d {
-            return Number::Is(acc, p);
-        }
+    for p in at..s.len() {
+        let Some(d) = decimal_value(s[p]) else {
+            return (acc, p);
+        };
         acc = held_at(acc * 10 + d);
-        p += 1;
     }
-    Number::Is(acc, p)
+    (acc, at.max(s.len()))
 }
 
-// Reads a decimal number without leading zeros, held at 2 to the 32.
-pub fn read_decimal(s: &[u8], at: usize) -> Number
+// Reads a decimal number without leading zeros, held at 2 to the 32, and returns it and the place after it.
+pub fn read_decimal(s: &[u8], at: usize) -> Result<(u64, usize), Wrong>
     ensures { result ≡ read_decimal (drop at s.now) at }
 {
     if s.len() <= at {
-        return Number::Wrong(at);
+        return Err(Wrong { at });
     }
-    let d = decimal_value(s[at]);
-    if 10 <= d {
-        return Number::Wrong(at);
+    match decimal_value(s[at]) {
+        None => Err(Wrong { at }),
+        Some(0) => Ok((0, at + 1)),
+        Some(d) => Ok(more_decimal(s, at + 1, d)),
     }
-    if d == 0 {
-        return Number::Is(0, at + 1);
-    }
-    more_decimal(s, at + 1, d)
 }
 
 // The float of a bit pattern; every NaN's pattern gives the one NaN.

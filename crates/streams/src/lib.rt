@@ -17,6 +17,7 @@ pub fn read_full<R: Read>(input: &mut R, out: &mut [u8]) -> io::Result<usize>
     ensures room { length out.new ≡ length out.old }
 {
     let mut n = 0usize;
+    // A read may give fewer bytes than were asked for.
     while n < out.len() {
         let more = input.read(&mut out[n..])?;
         if more == 0 {

@@ -3,9 +3,9 @@ use lib.Ieee.{div, of_bits}
 use mathlib.Core.Path.{refl}
 use Rattle.cases.proofs.float_at.Goals as goal
 
-pub returns-in-Is : goal.returns-in-Is
-returns-in-Is c = rw (← c.read_hex.ensures, c.in-Is.is) c.of_bits.ensures
+pub returns-in-Ok : goal.returns-in-Ok
+returns-in-Ok c = rw (← c.read_hex.ensures, c.in-Ok.is) c.of_bits.ensures
 
-pub returns-in-Wrong : goal.returns-in-Wrong
+pub returns-in-Err : goal.returns-in-Err
 unfolding div of_bits
-returns-in-Wrong c = rw (← c.read_hex.ensures, c.in-Wrong.is) refl
+returns-in-Err c = rw (← c.read_hex.ensures, c.in-Err.is) refl

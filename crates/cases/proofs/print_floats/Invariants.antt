@@ -1,5 +1,4 @@
 -- `cases::print_floats`: the members so far are written. Assumes nothing.
-use Rattle.std.proofs.Common.{◌≡◌, ◌≤◌, length}
 use Rattle.std.specs.Io.KnownBytes.{Appends}
 use Rattle.cases.specs.Lists.{float_text}
 use Rattle.cases.proofs.Listing.{so_far}
@@ -7,7 +6,5 @@ use Rattle.cases.proofs.print_floats.Given as goal
 
 abbrev pub invariant-loop-i : goal.invariant-loop-i
 invariant-loop-i g l = record {
-  end : l.i-end ≡ length l.list;
-  within : l.i ≤ l.i-end;
   written : Appends (g.W.Write.contents l.fn.out) (g.W.Write.contents l.out) (so_far float_text l.list l.i);
 }

@@ -1,5 +1,4 @@
 -- `cases::print_words`: the members so far are written. Assumes nothing.
-use Rattle.std.proofs.Common.{◌≡◌, ◌≤◌, length}
 use Rattle.std.specs.Io.KnownBytes.{Appends}
 use Rattle.digits.specs.Digits.{decimal_of}
 use Rattle.cases.proofs.Listing.{so_far}
@@ -7,7 +6,5 @@ use Rattle.cases.proofs.print_words.Given as goal
 
 abbrev pub invariant-loop-i : goal.invariant-loop-i
 invariant-loop-i g l = record {
-  end : l.i-end ≡ length l.list;
-  within : l.i ≤ l.i-end;
   written : Appends (g.W.Write.contents l.fn.out) (g.W.Write.contents l.out) (so_far decimal_of l.list l.i);
 }

@@ -1,5 +1,5 @@
 -- `cases::read_line`: a newline, the end of the stream and the end of the room, and a byte more. Assumes nothing.
-use Rattle.std.proofs.Common.{◌≤◌, Ok, length, arith, sym, ap, subst, length-take-le}
+use Rattle.std.proofs.Common.{◌≡◌, ◌≤◌, Ok, length, arith, sym, ap, subst, length-take-le}
 use Rattle.std.proofs.Math.ListN.{length-set}
 use Rattle.std.specs.Io.KnownBytes.{Consumes}
 use Rattle.std.proofs.KnownBytes.{Consumes-trans}
@@ -20,8 +20,6 @@ returns-then-b-eq10-clause-line g c =
 
 pub loop-n-preserved : goal.loop-n-preserved
 loop-n-preserved g c = record {
-  within = omega arith;
-  length_same = simp length-set (omega arith);
   none = none_more _ _ _ (omega arith) c.loop-n.invariant.none c.if-b-eq10.false;
   moved = subst (Consumes _ _) (sym (more_bytes c.loop-n.out c.loop-n.n c.in-Some.b (omega arith))) (Consumes-trans _ _ _ _ _ c.loop-n.invariant.moved (rw c.in-Some.is at c.in_ok-b.ensures.some));
 }
@@ -29,4 +27,5 @@ loop-n-preserved g c = record {
 pub returns-clause-line : goal.returns-clause-line
 returns-clause-line g c =
     let h : c.loop-n.n ≤ length c.loop-n.out = omega arith in
-    line_full _ _ _ _ c.loop-n.invariant.moved c.loop-n.invariant.none (omega (arith, length-take-le _ _ h))
+    let all : length c.loop-n.out ≡ c.loop-n.n = omega arith in
+    rw all (line_full _ _ _ _ c.loop-n.invariant.moved c.loop-n.invariant.none (omega (arith, length-take-le _ _ h)))

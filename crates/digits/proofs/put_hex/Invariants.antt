@@ -1,13 +1,9 @@
 -- `digits::put_hex` meets its contract: the loop's invariant: the digits that are left, put after those that are there, come to the whole.
-use Prim.Native.Nat.{◌+◌, ◌≤◌}
+use Prim.Native.Nat.{◌+◌}
 use mathlib.Core.Path.{◌≡◌}
-use lib.ListN.{length}
 use lib.Seq.{sets}
 use Rattle.digits.specs.Digits.{hex_from}
 use Rattle.digits.proofs.put_hex.Given as goal
 
 abbrev pub invariant-loop-k : goal.invariant-loop-k
-invariant-loop-k l = (sets l.buf l.p (hex_from l.k l.n) ≡ sets l.initial.buf l.at (hex_from 16 l.n)) × (l.p + l.k ≡ l.at + 16) × (l.k ≤ 16) × (length l.buf ≡ length l.initial.buf)
-
-abbrev pub decreases-loop-k : goal.decreases-loop-k
-decreases-loop-k l = l.k
+invariant-loop-k l = (sets l.buf l.p (hex_from l.k l.n) ≡ sets l.initial.buf l.at (hex_from 16 l.n)) × (l.p + l.k ≡ l.at + 16)

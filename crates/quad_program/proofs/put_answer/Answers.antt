@@ -6,11 +6,11 @@ use mathlib.Core.Path.{sym, ◌∙◌}
 use Rattle.quad_program.proofs.put_answer.Goals as goal
 
 pub put_found-requires : goal.put_found-requires
-put_found-requires c = let b = found_few _ _ _ _ _ (sym c.neighbor_quads.ensures.answer ∙ c.in-Found.is) in let k = c.neighbor_quads.auto in (omega (arith, b.0, c.requires), omega (arith, b.0, k.places), omega (arith, b.0, k.hashes))
+put_found-requires c = let b = found_few _ _ _ _ _ (sym c.neighbor_quads.ensures.answer ∙ c.in-Ok.is) in let k = c.neighbor_quads.auto in (omega (arith, b.0, c.requires), omega (arith, b.0, k.places), omega (arith, b.0, k.hashes))
 
-pub returns-in-Refused : goal.returns-in-Refused
-returns-in-Refused c = (same_text (refused_text _ _ _ _ _ _ _ c.requires.1 c.in-Refused.is c.neighbor_quads.ensures.answer c.number.ensures) c.put_status.ensures.0, omega (arith, c.put_status.ensures.1))
+pub returns-in-Err : goal.returns-in-Err
+returns-in-Err c = (same_text (refused_text _ _ _ _ _ _ _ c.requires.1 c.in-Err.is c.neighbor_quads.ensures.answer c.number.ensures) c.put_status.ensures.0, omega (arith, c.put_status.ensures.1))
 
-pub returns-in-Found : goal.returns-in-Found
-returns-in-Found c = let b = found_few _ _ _ _ _ (sym c.neighbor_quads.ensures.answer ∙ c.in-Found.is) in
-    (same_text (found_text_lem _ _ _ _ _ _ _ _ _ _ c.requires.1 c.in-Found.is c.neighbor_quads.ensures.answer c.neighbor_quads.ensures.places c.neighbor_quads.ensures.hashes) c.put_found.ensures.0, omega (arith, b.0, c.put_found.ensures.1))
+pub returns-in-Ok : goal.returns-in-Ok
+returns-in-Ok c = let b = found_few _ _ _ _ _ (sym c.neighbor_quads.ensures.answer ∙ c.in-Ok.is) in
+    (same_text (found_text_lem _ _ _ _ _ _ _ _ _ _ c.requires.1 c.in-Ok.is c.neighbor_quads.ensures.answer c.neighbor_quads.ensures.places c.neighbor_quads.ensures.hashes) c.put_found.ensures.0, omega (arith, b.0, c.put_found.ensures.1))

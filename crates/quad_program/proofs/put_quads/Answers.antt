@@ -5,13 +5,13 @@ use native.Mathlib.Omega.{arith}
 use Rattle.quad_program.proofs.put_quads.Goals as goal
 
 pub loop-i-init : goal.loop-i-init
-loop-i-init c = (same_rest (lines_start _ _ _) going_start, omega arith, omega arith)
+loop-i-init c = (same_rest (lines_start _ _ _) going_start, omega arith)
 
 pub put_quad-m-requires : goal.put_quad-m-requires
 put_quad-m-requires c = (omega (arith, c.loop-i.invariant.0.long), omega arith, omega arith)
 
 pub loop-i-preserved : goal.loop-i-preserved
-loop-i-preserved c = (going_step (same_rest (lines_more _ _ _ _ c.loop-i-test.true) c.loop-i.invariant.0) c.put_quad-m.ensures.0, omega arith, omega (arith, c.put_quad-m.ensures.1))
+loop-i-preserved c = (going_step (same_rest (lines_more _ _ _ _ c.loop-i-test.true) c.loop-i.invariant.0) c.put_quad-m.ensures.0, omega (arith, c.put_quad-m.ensures.1))
 
 pub shape_of-buf : goal.shape_of-buf
 shape_of-buf c = c.loop-i.invariant.0.long

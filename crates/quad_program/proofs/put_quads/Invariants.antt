@@ -6,7 +6,4 @@ use Prim.Native.Nat.{◌+◌, ◌*◌, ◌-◌, ◌≤◌}
 use Rattle.quad_program.proofs.put_quads.Given as goal
 
 abbrev pub invariant-loop-i : goal.invariant-loop-i
-invariant-loop-i l = Going l.initial.buf l.at (all_lines l.n l.places l.hashes) l.buf l.m (all_lines (l.n - l.i) (drop (4 * l.i) l.places) (drop (4 * l.i) l.hashes)) × (l.i ≤ l.n) × (l.m ≤ l.at + 42 * l.i)
-
-abbrev pub decreases-loop-i : goal.decreases-loop-i
-decreases-loop-i l = l.n - l.i
+invariant-loop-i l = Going l.initial.buf l.at (all_lines l.n l.places l.hashes) l.buf l.m (all_lines (l.n - l.i) (drop (4 * l.i) l.places) (drop (4 * l.i) l.hashes)) × (l.m ≤ l.at + 42 * l.i)

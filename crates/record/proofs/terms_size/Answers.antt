@@ -4,11 +4,11 @@ use native.Mathlib.Omega.{arith}
 use Rattle.record.proofs.Laws.{size_more, size_none}
 use Rattle.record.proofs.terms_size.Goals as goal
 
-pub loop-i-init : goal.loop-i-init
-loop-i-init c = (omega arith, omega arith, omega arith)
+pub loop-c-init : goal.loop-c-init
+loop-c-init c = (omega arith, omega arith)
 
-pub loop-i-preserved : goal.loop-i-preserved
-loop-i-preserved c = let l = c.loop-i in (omega (arith, size_more c.args.cs.now l.i nan c.loop-i-test.true, l.invariant.0, c.line_size-m.ensures.0), omega (arith, c.line_size-m.ensures.1), omega arith)
+pub loop-c-preserved : goal.loop-c-preserved
+loop-c-preserved c = let l = c.loop-c in (omega (arith, size_more c.args.cs.now l.c-index nan c.loop-c-test.true, l.invariant.0, c.line_size-m.ensures.0), omega (arith, c.line_size-m.ensures.1))
 
 pub returns : goal.returns
-returns c = let l = c.loop-i in (omega (arith, size_none c.args.cs.now l.i c.loop-i-test.false, l.invariant.0), omega arith)
+returns c = let l = c.loop-c in (omega (arith, size_none c.args.cs.now l.c-index c.loop-c-test.false, l.invariant.0), omega arith)

@@ -19,8 +19,8 @@ sip_in-fit-requires c = omega (arith, (six_three (length c.args.wcs.now) (length
 pub of-requires : goal.of-requires
 of-requires c = omega (arith, (six_three (length c.args.wcs.now) (length c.args.sums.now) c.if-wcs-sums.false).0)
 
-pub returns-in-Refused : goal.returns-in-Refused
-returns-in-Refused c = let e = refused (record_done (solution c.sip_in-fit.result c.of.result c.args.order c.args.a.now c.args.b.now) (length c.args.text.now)) (length (record_text (solution c.sip_in-fit.result c.of.result c.args.order c.args.a.now c.args.b.now))) _ (sym c.write_record.ensures.answer ∙ c.in-Refused.is) in rw (c.if-wcs-sums.false, ← c.sip_in-fit.ensures, ← c.of.ensures, e) (record { number = c.number-in-Refused.ensures; text = rw e at c.write_record.ensures.text; written = refl })
+pub returns-in-Err : goal.returns-in-Err
+returns-in-Err c = let e = refused (record_done (solution c.sip_in-fit.result c.of.result c.args.order c.args.a.now c.args.b.now) (length c.args.text.now)) (length (record_text (solution c.sip_in-fit.result c.of.result c.args.order c.args.a.now c.args.b.now))) _ (sym c.write_record.ensures.answer ∙ c.in-Err.is) in rw (c.if-wcs-sums.false, ← c.sip_in-fit.ensures, ← c.of.ensures, e) (record { number = c.number-in-Err.ensures; text = rw e at c.write_record.ensures.text; written = refl })
 
-pub returns-in-Written : goal.returns-in-Written
-returns-in-Written c = let e = done (record_done (solution c.sip_in-fit.result c.of.result c.args.order c.args.a.now c.args.b.now) (length c.args.text.now)) (length (record_text (solution c.sip_in-fit.result c.of.result c.args.order c.args.a.now c.args.b.now))) _ (sym c.write_record.ensures.answer ∙ c.in-Written.is) in rw (c.if-wcs-sums.false, ← c.sip_in-fit.ensures, ← c.of.ensures, e.0) (record { number = refl; text = rw e.0 at c.write_record.ensures.text; written = e.1 })
+pub returns-in-Ok : goal.returns-in-Ok
+returns-in-Ok c = let e = done (record_done (solution c.sip_in-fit.result c.of.result c.args.order c.args.a.now c.args.b.now) (length c.args.text.now)) (length (record_text (solution c.sip_in-fit.result c.of.result c.args.order c.args.a.now c.args.b.now))) _ (sym c.write_record.ensures.answer ∙ c.in-Ok.is) in rw (c.if-wcs-sums.false, ← c.sip_in-fit.ensures, ← c.of.ensures, e.0) (record { number = refl; text = rw e.0 at c.write_record.ensures.text; written = e.1 })

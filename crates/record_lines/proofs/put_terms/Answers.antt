@@ -6,21 +6,21 @@ use Rattle.record_lines.proofs.Laws.{terms_more, terms_none}
 use Rattle.put.proofs.Writing.{going_start, going_step, going_end, going_room, room_first, same_rest}
 use Rattle.record_lines.proofs.put_terms.Goals as goal
 
-pub loop-i-init : goal.loop-i-init
+pub loop-c-init : goal.loop-c-init
 unfolding term_at
-loop-i-init c = (rw c.first-t.ensures going_start, c.first-t.ensures, omega arith)
+loop-c-init c = (rw c.first-t.ensures going_start, c.first-t.ensures)
 
 pub put_term-m-requires : goal.put_term-m-requires
-put_term-m-requires c = let l = c.loop-i in (omega (arith, low_term l.t l.i l.invariant.1 (omega arith)), room_first _ (going_room c.requires.1 (same_rest (terms_more _ _ _ _ _ c.loop-i-test.true) l.invariant.0)))
+put_term-m-requires c = let l = c.loop-c in (omega (arith, low_term l.t l.c-index l.invariant.1 (omega arith)), room_first _ (going_room c.requires.1 (same_rest (terms_more _ _ _ _ _ c.loop-c-test.true) l.invariant.0)))
 
 pub next-t-requires : goal.next-t-requires
-next-t-requires c = let l = c.loop-i in omega (arith, low_term l.t l.i l.invariant.1 (omega arith))
+next-t-requires c = let l = c.loop-c in omega (arith, low_term l.t l.c-index l.invariant.1 (omega arith))
 
-pub loop-i-preserved : goal.loop-i-preserved
-loop-i-preserved c = let l = c.loop-i in (rw c.next-t.ensures (going_step (same_rest (terms_more _ _ _ _ _ c.loop-i-test.true) l.invariant.0) c.put_term-m.ensures), term_more l.t c.next-t.result l.i l.invariant.1 c.next-t.ensures, omega arith)
+pub loop-c-preserved : goal.loop-c-preserved
+loop-c-preserved c = let l = c.loop-c in (rw c.next-t.ensures (going_step (same_rest (terms_more _ _ _ _ _ c.loop-c-test.true) l.invariant.0) c.put_term-m.ensures), term_more l.t c.next-t.result l.c-index l.invariant.1 c.next-t.ensures)
 
 pub shape_of-buf : goal.shape_of-buf
-shape_of-buf c = c.loop-i.invariant.0.long
+shape_of-buf c = c.loop-c.invariant.0.long
 
 pub returns : goal.returns
-returns c = going_end (same_rest (terms_none _ _ _ _ c.loop-i-test.false) c.loop-i.invariant.0)
+returns c = going_end (same_rest (terms_none _ _ _ _ c.loop-c-test.false) c.loop-c.invariant.0)

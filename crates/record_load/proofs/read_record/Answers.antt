@@ -12,10 +12,10 @@ slice_bounds-hand_both-end c = sym (length-take-le c.terms-n.result c.load-shown
 pub slice_bounds-hand_both-end-2 : goal.slice_bounds-hand_both-end-2
 slice_bounds-hand_both-end-2 c = sym (length-take-le c.terms-n.result c.load-shown.new.ys (omega (arith, c.terms-n.ensures.1, c.load-shown.ensures.3)))
 
-pub returns-in-Refused : goal.returns-in-Refused
-returns-in-Refused c = handed (record_in c.args.text.now) c.load-shown.result c.terms-n.result c.load-shown.new.xs c.load-shown.new.ys c.args.a.now c.args.b.now _ _ c.hand_both.result _
-    c.load-shown.ensures.0 c.terms-n.ensures.0 c.hand_both.ensures.0 c.hand_both.ensures.1 c.hand_both.ensures.2 (rw c.in-Refused.is)
+pub returns-in-Err : goal.returns-in-Err
+returns-in-Err c = handed (record_in c.args.text.now) c.load-shown.result c.terms-n.result c.load-shown.new.xs c.load-shown.new.ys c.args.a.now c.args.b.now _ _ c.hand_both.result _
+    c.load-shown.ensures.0 c.terms-n.ensures.0 c.hand_both.ensures.0 c.hand_both.ensures.1 c.hand_both.ensures.2 (rw c.in-Err.is)
 
-pub returns-in-Done : goal.returns-in-Done
-returns-in-Done c = handed (record_in c.args.text.now) c.load-shown.result c.terms-n.result c.load-shown.new.xs c.load-shown.new.ys c.args.a.now c.args.b.now _ _ c.hand_both.result _
-    c.load-shown.ensures.0 c.terms-n.ensures.0 c.hand_both.ensures.0 c.hand_both.ensures.1 c.hand_both.ensures.2 (c.of.ensures ∙ rw c.in-Done.is)
+pub returns-in-Ok : goal.returns-in-Ok
+returns-in-Ok c = handed (record_in c.args.text.now) c.load-shown.result c.terms-n.result c.load-shown.new.xs c.load-shown.new.ys c.args.a.now c.args.b.now _ _ c.hand_both.result _
+    c.load-shown.ensures.0 c.terms-n.ensures.0 c.hand_both.ensures.0 c.hand_both.ensures.1 c.hand_both.ensures.2 (c.of.ensures ∙ rw c.in-Ok.is)

@@ -1,5 +1,4 @@
 -- `record_lines::Axis::of` meets its contract: after i numbers the first i hold those of the list. Assumes nothing.
-use Prim.Native.Nat.{◌≤◌, ◌-◌}
 use mathlib.Core.Path.{◌≡◌}
 use mathlib.Core.List.{map}
 use lib.ListN.{length, take}
@@ -7,7 +6,4 @@ use Rattle.record_format.specs.Formats.{held_by}
 use Rattle.record_lines.proofs.Axis.of.Given as goal
 
 abbrev pub invariant-loop-i : goal.invariant-loop-i
-invariant-loop-i l = (take l.i l.numbers ≡ map (held_by l.format) (take l.i l.cs)) × (length l.numbers ≡ 18) × (l.i ≤ length l.cs)
-
-abbrev pub decreases-loop-i : goal.decreases-loop-i
-decreases-loop-i l = length l.cs - l.i
+invariant-loop-i l = (take l.i l.numbers ≡ map (held_by l.format) (take l.i l.cs)) × (length l.numbers ≡ 18)
