@@ -1,5 +1,6 @@
 -- The affine of three rows, and the rows that agree with one. Each operation is rounded once, in the Rust's order. Definitions only.
-use Rattle.std.specs.Prelude.{Bool, cond, ℕ, zero, suc, ◌+◌, Float}
+use Rattle.answer.specs.declared.Refusal.{Refusal}
+use Rattle.std.specs.Prelude.{Bool, cond, ℕ, zero, suc, ◌+◌, Float, Result, Ok, Err}
 use Rattle.std.specs.Float.{binary64}
 use Rattle.std.specs.Float.Ieee.{of_bits, neg, lt}
 use Rattle.floats.specs.Rounded.{◌⊕◌, ◌⊖◌, ◌⊗◌, ◌⊘◌}
@@ -9,8 +10,6 @@ use Rattle.answer.specs.declared.Refusal.TheVariants as refusal
 use Rattle.rows.specs.Rows.{Rows, row_at, count}
 use Rattle.rows.specs.declared.Row.{Row}
 use Rattle.affine.specs.declared.Affine.{Affine}
-use Rattle.affine.specs.declared.AffineFit.{AffineFit}
-use Rattle.affine.specs.declared.AffineFit.TheVariants as fit
 use Rattle.affine.specs.declared.Inverse.{Inverse}
 
 -- 1e-20, the least determinant of three rows that are fitted.
@@ -47,15 +46,10 @@ affine_of p q r area =
     }
 
 -- What three rows come to: number 8 where the determinant's magnitude is below the least, else their affine.
-unfoldable pub fit_of : Row → Row → Row → AffineFit
+unfoldable pub fit_of : Row → Row → Row → Result Affine Refusal
 fit_of p q r =
-    cond (lt (magnitude_of (area_of p q r)) least_determinant) (fit.Refused refusal.Degenerate)
-    (fit.Fitted (affine_of p q r (area_of p q r)))
-
--- The number of a fit: 0 is done.
-abbrev pub fit_number : AffineFit → ℕ
-fit_number (fit.Fitted m) = 0
-fit_number (fit.Refused why) = number_of why
+    cond (lt (magnitude_of (area_of p q r)) least_determinant) (Err refusal.Degenerate)
+    (Ok (affine_of p q r (area_of p q r)))
 
 -- The determinant of an affine's four factors.
 unfoldable pub determinant_of : Affine → Float

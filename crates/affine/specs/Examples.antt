@@ -1,5 +1,5 @@
 -- Worked examples, each by computation.
-use Rattle.std.specs.Prelude.{◌≡◌, refl, [], ◌∷◌, Float}
+use Rattle.std.specs.Prelude.{◌≡◌, refl, [], ◌∷◌, Float, Ok, Err}
 use Rattle.std.specs.Float.{binary64}
 use Rattle.std.specs.Float.Ieee.{of_bits, add, sub, mul, div, neg, lt}
 use Rattle.floats.specs.Magnitude.{magnitude_of}
@@ -7,7 +7,6 @@ use Rattle.answer.specs.declared.Refusal.TheVariants as refusal
 use Rattle.rows.specs.Rows.{Rows, rows}
 use Rattle.rows.specs.declared.Row.{Row}
 use Rattle.affine.specs.declared.Affine.{Affine}
-use Rattle.affine.specs.declared.AffineFit.TheVariants as fit
 use Rattle.affine.specs.Affine.{least_determinant, one, area_of, affine_of, fit_of, determinant_of, inverse_of, missed_xi, missed_eta, error_sq, near_rows, agreeing}
 
 abbrev zero : Float
@@ -28,22 +27,22 @@ abbrev same : Affine
 same = factors one zero zero one
 
 -- a unit triangle that stays where it is
-unit_triangle : fit_of (row zero zero zero zero) (row one zero one zero) (row zero one zero one) ≡ fit.Fitted same
+unit_triangle : fit_of (row zero zero zero zero) (row one zero one zero) (row zero one zero one) ≡ Ok same
 unfolding fit_of area_of affine_of magnitude_of of_bits add sub mul div neg lt
 unit_triangle = refl
 
 -- a determinant of exactly 1e-20 is fitted, and the next one below is not
 at_the_least : fit_of (row zero zero zero zero) (row least_determinant zero one zero) (row zero one zero one)
-    ≡ fit.Fitted (factors (of_bits binary64 0x4415_af1d_78b5_8c40) zero zero one)
+    ≡ Ok (factors (of_bits binary64 0x4415_af1d_78b5_8c40) zero zero one)
 unfolding fit_of area_of affine_of magnitude_of of_bits add sub mul div neg lt
 at_the_least = refl
 
-below_the_least : fit_of (row zero zero zero zero) (row (of_bits binary64 0x3bc7_9ca1_0c92_4222) zero one zero) (row zero one zero one) ≡ fit.Refused refusal.Degenerate
+below_the_least : fit_of (row zero zero zero zero) (row (of_bits binary64 0x3bc7_9ca1_0c92_4222) zero one zero) (row zero one zero one) ≡ Err refusal.Degenerate
 unfolding fit_of area_of magnitude_of of_bits add sub mul div neg lt
 below_the_least = refl
 
 -- a place that is drawn twice has no area
-twice : fit_of (row one zero one zero) (row one zero one zero) (row zero one zero one) ≡ fit.Refused refusal.Degenerate
+twice : fit_of (row one zero one zero) (row one zero one zero) (row zero one zero one) ≡ Err refusal.Degenerate
 unfolding fit_of area_of magnitude_of of_bits add sub mul div neg lt
 twice = refl
 

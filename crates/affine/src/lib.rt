@@ -1,9 +1,9 @@
 // The affine of three rows, and how many rows agree with an affine.
 #![tactic(auto)]
 
-ghost use Rattle.std.specs.Prelude.{◌≡◌, cond, length};
+ghost use Rattle.std.specs.Prelude.{◌≡◌, length};
 ghost use Rattle.rows.specs.Rows.{rows};
-ghost use Rattle.affine.specs.Affine.{area_of, affine_of, fit_of, fit_number, determinant_of, inverse_of, is_near, near_rows, agreeing};
+ghost use Rattle.affine.specs.Affine.{area_of, affine_of, fit_of, determinant_of, inverse_of, is_near, near_rows, agreeing};
 
 use answer::Refusal;
 use rows::Row;
@@ -60,25 +60,6 @@ impl Affine {
     }
 }
 
-// What three rows come to.
-#[derive(Clone, Copy)]
-pub enum AffineFit {
-    Fitted(Affine),
-    Refused(Refusal),
-}
-
-impl AffineFit {
-    // The number of the answer: 0 is done.
-    pub fn number(self) -> u32
-        ensures { result ≡ fit_number self }
-    {
-        match self {
-            AffineFit::Fitted(_) => 0,
-            AffineFit::Refused(why) => why.number(),
-        }
-    }
-}
-
 // From the tangent plane back to the pixels: the inverse of an affine's four factors.
 #[derive(Clone, Copy)]
 struct Inverse {
@@ -96,14 +77,14 @@ fn area_of(p: Row, q: Row, r: Row) -> f64
 }
 
 // The affine of three rows, or refusal 8. A determinant of exactly the least is fitted.
-pub fn fit_rows(p: Row, q: Row, r: Row) -> AffineFit
+pub fn fit_rows(p: Row, q: Row, r: Row) -> Result<Affine, Refusal>
     ensures { result ≡ fit_of p q r }
 {
     let area = area_of(p, q, r);
     if floats::magnitude(area) < Affine::LEAST_DETERMINANT {
-        return AffineFit::Refused(Refusal::Degenerate);
+        return Err(Refusal::Degenerate);
     }
-    AffineFit::Fitted(Affine::of(p, q, r, area))
+    Ok(Affine::of(p, q, r, area))
 }
 
 // The determinant of an affine's four factors.
@@ -136,13 +117,6 @@ fn is_near(m: Affine, v: Inverse, square: f64, row: Row) -> bool
     dx * dx + dy * dy < square
 }
 
-// One for a row that agrees, none for another.
-fn one_if(near: bool) -> usize
-    ensures { result ≡ cond near 1 0 }
-{
-    if near { 1 } else { 0 }
-}
-
 // How many rows are near. The loop has no branch, so that it compiles to vector code.
 fn count_near(
     px: &[f64],
@@ -160,7 +134,7 @@ fn count_near(
 {
     let mut count = 0usize;
     for i in 0..px.len() {
-        count += one_if(is_near(m, v, square, rows::row_at(px, py, xi, eta, i)));
+        count += is_near(m, v, square, rows::row_at(px, py, xi, eta, i)) as usize;
     }
     count
 }

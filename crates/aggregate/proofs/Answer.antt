@@ -1,4 +1,5 @@
 -- What an input is like that passed its tests, and outputs with room. Assumes nothing.
+use Rattle.std.specs.Prelude.{Result, Ok, Err}
 use Prim.Native.Nat.{ℕ, ◌/◌, ◌%◌, ◌≤◌}
 use mathlib.Core.Path.{◌≡◌, refl, sym}
 use mathlib.Core.Bool.{Bool, true, false, cond, ◌&&◌, true≢false}
@@ -10,16 +11,15 @@ use borrow.Author.Tests.{eqb-true, leb-true, ltb-false}
 use Rattle.answer.specs.Answers.{first, room_for}
 use Rattle.answer.specs.declared.Refusal.{Refusal}
 use Rattle.answer.specs.declared.Refusal.TheVariants as refusal
-use Rattle.answer.specs.declared.Answer.TheVariants as answer
 use Rattle.answer.proofs.Passed.{passed, both}
 use Rattle.aggregate_choice.specs.Choice.{pairs_of}
 use Rattle.aggregate_choice.proofs.Pairs.{Below, below_pairs}
 use Rattle.aggregate.specs.Extract.{Given, Room, few, even, found, choice_in, count_answer, lengths_answer, values_answer, input_answer, room_answer}
 
 -- a test that is asked for did hold where all is done
-held : (b : Bool) (why : Refusal) → cond b answer.Done (answer.Refused why) ≡ answer.Done → b ≡ true
-held true why e = refl
-held false why e = let z : ◌≡◌ {A = ℕ} 0 1 = cc in absurd (omega arith)
+held : (b : Bool) (why : Refusal) (done : Result Unit Refusal) → done ≡ Ok tt → cond b done (Err why) ≡ Ok tt → b ≡ true
+held true why done d e = refl
+held false why done d e = let z : ◌≡◌ {A = ℕ} 0 1 = cc in absurd (omega arith)
 
 few_is : (m x y s i c r a d : ℕ) → few m x y s i c r a d ≡ true → (m / 8 ≤ 144000000) × (x ≤ 100) × (c ≤ 100) × (r ≤ 100)
 few_is m x y s i c r a d =
@@ -46,18 +46,18 @@ even_is m x y s r a d = go (eqb (m % 8) 0) (eqb-true (m % 8) 0)
     go true f e = f refl
     go false f e = absurd (true≢false (sym e))
 
-pub within : (g : Given) → input_answer g ≡ answer.Done → (length g.matches ≤ 1152000000) × (length g.xs ≤ 100) × (length g.catalogue ≤ 100) × (length g.results ≤ 100)
+pub within : (g : Given) → input_answer g ≡ Ok tt → (length g.matches ≤ 1152000000) × (length g.xs ≤ 100) × (length g.catalogue ≤ 100) × (length g.results ≤ 100)
 unfolding input_answer
 within g e =
     let a = both (count_answer g) (first (lengths_answer g) (values_answer g)) e in
-    let c = few_is (length g.matches) (length g.xs) (length g.ys) (length g.snrs) (length g.images) (length g.catalogue) (length g.results) (length g.ras) (length g.decs) (held _ refusal.Count a.0) in
-    let z = even_is (length g.matches) (length g.xs) (length g.ys) (length g.snrs) (length g.results) (length g.ras) (length g.decs) (held _ refusal.Lengths (both (lengths_answer g) (values_answer g) a.1).0) in
+    let c = few_is (length g.matches) (length g.xs) (length g.ys) (length g.snrs) (length g.images) (length g.catalogue) (length g.results) (length g.ras) (length g.decs) (held _ refusal.Count _ refl a.0) in
+    let z = even_is (length g.matches) (length g.xs) (length g.ys) (length g.snrs) (length g.results) (length g.ras) (length g.decs) (held _ refusal.Lengths _ refl (both (lengths_answer g) (values_answer g) a.1).0) in
     (omega arith, c.1, c.2, c.3)
 
-fits : (n k : ℕ) → room_for n k ≡ answer.Done → n ≤ k
-fits n k e = ltb-false k n (passed (ltb k n) refusal.Room answer.Done e).0
+fits : (n k : ℕ) → room_for n k ≡ Ok tt → n ≤ k
+fits n k e = ltb-false k n (passed (ltb k n) refusal.Room (Ok tt) e).0
 
-pub long_enough : (o : Room) (n : ℕ) → room_answer n o ≡ answer.Done → (n ≤ o.px) × (n ≤ o.py) × (n ≤ o.ra) × (n ≤ o.dec) × (n ≤ o.votes) × (n ≤ o.snr)
+pub long_enough : (o : Room) (n : ℕ) → room_answer n o ≡ Ok tt → (n ≤ o.px) × (n ≤ o.py) × (n ≤ o.ra) × (n ≤ o.dec) × (n ≤ o.votes) × (n ≤ o.snr)
 unfolding room_answer
 long_enough o n e =
     let a = both (room_for n o.px) _ e in

@@ -1,16 +1,13 @@
 -- What extract_pairs answers, and what it leaves in each output. Definitions only.
-use Rattle.std.specs.Prelude.{ℕ, ◌/◌, ◌%◌, Bool, cond, ◌&&◌, List, map, eqb, leb, ℤ, length, get_or, Float}
+use Rattle.answer.specs.declared.Refusal.{Refusal}
+use Rattle.std.specs.Prelude.{ℕ, ◌/◌, ◌%◌, Bool, cond, ◌&&◌, List, map, eqb, leb, ℤ, length, get_or, Float, Result, Ok, Err}
 use Rattle.std.specs.Float.{nan}
 use Rattle.domain.specs.Domain.{is_position, is_snr, every}
 use Rattle.answer.specs.Answers.{answer_number, first, room_for}
 use Rattle.answer.specs.declared.Refusal.TheVariants as refusal
-use Rattle.answer.specs.declared.Answer.{Answer}
-use Rattle.answer.specs.declared.Answer.TheVariants as answer
 use Rattle.aggregate_votes.specs.Votes.{Ids, ids, votes_of, missing}
 use Rattle.aggregate_best.specs.declared.Choice.{Choice}
 use Rattle.aggregate_choice.specs.Choice.{chosen_by, pairs_of}
-use Rattle.aggregate.specs.declared.Pairs.{Pairs}
-use Rattle.aggregate.specs.declared.Pairs.TheVariants as pairs
 
 -- all that is handed over: eight places for each match; the detections; the ids; the results, with their positions
 pub record Given : Type 0 where
@@ -57,23 +54,23 @@ unfoldable pub inside : List Float → List Float → List Float → List Float 
 inside xs ys snrs ras decs = (every is_position xs && every is_position ys) && (every is_snr snrs && (every is_position ras && every is_position decs))
 
 -- number 1 for a count outside its limit
-abbrev pub count_answer : Given → Answer
+abbrev pub count_answer : Given → Result Unit Refusal
 count_answer g =
     cond (few (length g.matches) (length g.xs) (length g.ys) (length g.snrs) (length g.images) (length g.catalogue) (length g.results) (length g.ras) (length g.decs))
-    answer.Done (answer.Refused refusal.Count)
+    (Ok tt) (Err refusal.Count)
 
 -- number 2 for lengths that differ
-abbrev pub lengths_answer : Given → Answer
+abbrev pub lengths_answer : Given → Result Unit Refusal
 lengths_answer g =
     cond (even (length g.matches) (length g.xs) (length g.ys) (length g.snrs) (length g.results) (length g.ras) (length g.decs))
-    answer.Done (answer.Refused refusal.Lengths)
+    (Ok tt) (Err refusal.Lengths)
 
 -- number 3 for a value outside the domain
-abbrev pub values_answer : Given → Answer
-values_answer g = cond (inside g.xs g.ys g.snrs g.ras g.decs) answer.Done (answer.Refused refusal.Value)
+abbrev pub values_answer : Given → Result Unit Refusal
+values_answer g = cond (inside g.xs g.ys g.snrs g.ras g.decs) (Ok tt) (Err refusal.Value)
 
 -- what the tests of the input come to: number 1, 2 or 3, or done
-unfoldable pub input_answer : Given → Answer
+unfoldable pub input_answer : Given → Result Unit Refusal
 input_answer g = first (count_answer g) (first (lengths_answer g) (values_answer g))
 
 -- the ids that the votes are read by
@@ -81,40 +78,36 @@ abbrev pub ids_in : Given → Ids
 ids_in g = ids g.images g.catalogue g.results
 
 -- number 4 where a vote that counts names a detection that does not exist
-abbrev pub place_answer : Given → Answer
-place_answer g = cond (missing (ids_in g) (votes_of g.matches) (length g.xs)) (answer.Refused refusal.Place) answer.Done
+abbrev pub place_answer : Given → Result Unit Refusal
+place_answer g = cond (missing (ids_in g) (votes_of g.matches) (length g.xs)) (Err refusal.Place) (Ok tt)
 
 -- the detections of the pairs, in order
 abbrev pub found : Given → List ℕ
 found g = pairs_of (ids_in g) (votes_of g.matches) (length g.xs)
 
 -- number 7 where an output has fewer than n places
-unfoldable pub room_answer : ℕ → Room → Answer
+unfoldable pub room_answer : ℕ → Room → Result Unit Refusal
 room_answer n o =
     first (room_for n o.px)
     (first (room_for n o.py) (first (room_for n o.ra) (first (room_for n o.dec) (first (room_for n o.votes) (room_for n o.snr)))))
 
 -- the number of pairs, or a refusal
-abbrev pub found_after : Answer → ℕ → Pairs
-found_after answer.Done n = pairs.Found n
-found_after (answer.Refused why) n = pairs.Refused why
+abbrev pub found_after : Result Unit Refusal → ℕ → Result ℕ Refusal
+found_after (Ok tt) n = Ok n
+found_after (Err why) n = Err why
 
 -- the answer to an input that passed its tests
-unfoldable pub vote_pairs : Given → Room → Pairs
+unfoldable pub vote_pairs : Given → Room → Result ℕ Refusal
 vote_pairs g o = found_after (first (place_answer g) (room_answer (length (found g)) o)) (length (found g))
 
 -- the answer of `extract_pairs`: the first of the numbers 1, 2, 3, 4 and 7 that is due, or the number of pairs
-unfoldable pub pairs_answer : Given → Room → Pairs
+unfoldable pub pairs_answer : Given → Room → Result ℕ Refusal
 pairs_answer g o = found_after (first (input_answer g) (first (place_answer g) (room_answer (length (found g)) o))) (length (found g))
 
 -- done, or the refusal
-abbrev pub answer_of : Pairs → Answer
-answer_of (pairs.Found n) = answer.Done
-answer_of (pairs.Refused why) = answer.Refused why
-
--- its number
-abbrev pub pairs_number : Pairs → ℕ
-pairs_number p = answer_number (answer_of p)
+abbrev pub answer_of : Result ℕ Refusal → Result Unit Refusal
+answer_of (Ok n) = Ok tt
+answer_of (Err why) = Err why
 
 -- the choice of a detection: a place in the results, and its votes
 abbrev pub choice_in : Given → ℕ → Choice

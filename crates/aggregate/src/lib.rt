@@ -3,35 +3,16 @@
 
 ghost use Rattle.std.specs.Prelude.{◌≡◌, ◌≤◌, length};
 ghost use Rattle.answer.specs.Answers.{lent_after};
-ghost use Rattle.aggregate.specs.Extract.{given, room, few, even, inside, input_answer, room_answer, vote_pairs, pairs_answer, pairs_number, answer_of};
+ghost use Rattle.aggregate.specs.Extract.{given, room, few, even, inside, input_answer, room_answer, vote_pairs, pairs_answer, answer_of};
 ghost use Rattle.aggregate.specs.Extract.{pair_xs, pair_ys, pair_ras, pair_decs, pair_votes, pair_snrs};
 
-use answer::{Answer, Refusal};
+use answer::Refusal;
 
 // The longest list of detections, ids or results.
 const MOST: usize = 100;
 
 // The most matches in a list.
 const MOST_MATCHES: usize = 144000000;
-
-// The answer of extract_pairs: how many pairs were written.
-#[derive(Clone, Copy)]
-pub enum Pairs {
-    Found(usize),
-    Refused(Refusal),
-}
-
-impl Pairs {
-    // The number of the answer: 0 is done.
-    pub fn number(self) -> u32
-        ensures { result ≡ pairs_number self }
-    {
-        match self {
-            Pairs::Found(_) => 0,
-            Pairs::Refused(why) => why.number(),
-        }
-    }
-}
 
 // Whether no list is too long, by their lengths; the matches are counted in whole eights.
 fn is_few(
@@ -90,7 +71,7 @@ fn check_input(
     results: &[i64],
     ras: &[f64],
     decs: &[f64],
-) -> Answer
+) -> Result<(), Refusal>
     ensures { result ≡ input_answer (given matches.now xs.now ys.now snrs.now images.now catalogue.now
         results.now ras.now decs.now) }
 {
@@ -105,7 +86,7 @@ fn check_input(
         ras.len(),
         decs.len(),
     ) {
-        return Answer::Refused(Refusal::Count);
+        return Err(Refusal::Count);
     }
     if !is_even(
         matches.len(),
@@ -116,12 +97,12 @@ fn check_input(
         ras.len(),
         decs.len(),
     ) {
-        return Answer::Refused(Refusal::Lengths);
+        return Err(Refusal::Lengths);
     }
     if !is_inside(xs, ys, snrs, ras, decs) {
-        return Answer::Refused(Refusal::Value);
+        return Err(Refusal::Value);
     }
-    Answer::Done
+    Ok(())
 }
 
 // Whether each output has n places.
@@ -133,31 +114,32 @@ fn check_room(
     votes: usize,
     snr: usize,
     n: usize,
-) -> Answer
+) -> Result<(), Refusal>
     ensures { result ≡ room_answer n (room px py ra dec votes snr) }
 {
     if px < n {
-        return Answer::Refused(Refusal::Room);
+        return Err(Refusal::Room);
     }
     if py < n {
-        return Answer::Refused(Refusal::Room);
+        return Err(Refusal::Room);
     }
     if ra < n {
-        return Answer::Refused(Refusal::Room);
+        return Err(Refusal::Room);
     }
     if dec < n {
-        return Answer::Refused(Refusal::Room);
+        return Err(Refusal::Room);
     }
     if votes < n {
-        return Answer::Refused(Refusal::Room);
+        return Err(Refusal::Room);
     }
     if snr < n {
-        return Answer::Refused(Refusal::Room);
+        return Err(Refusal::Room);
     }
-    Answer::Done
+    Ok(())
 }
 
 // The pairs of an input that passed its tests: all is counted before the first store.
+#[tactic(auto, unfolding(crate::specs::Extract::vote_pairs))]
 fn put_pairs(
     matches: &[u8],
     xs: &[f64],
@@ -174,7 +156,7 @@ fn put_pairs(
     dec: &mut [f64],
     votes: &mut [u32],
     snr: &mut [f64],
-) -> Pairs
+) -> Result<usize, Refusal>
     requires { (length matches.now ≤ 1152000000) × (length xs.now ≤ 100) × (length catalogue.now ≤ 100) × (length results.now ≤ 100) }
     ensures answer { result ≡ vote_pairs (given matches.now xs.now ys.now snrs.now images.now catalogue.now
         results.now ras.now decs.now)
@@ -194,9 +176,9 @@ fn put_pairs(
 {
     let pick = aggregate_choice::pick_pairs(matches, images, catalogue, results, xs.len());
     if pick.bad {
-        return Pairs::Refused(Refusal::Place);
+        return Err(Refusal::Place);
     }
-    match check_room(
+    check_room(
         px.len(),
         py.len(),
         ra.len(),
@@ -204,19 +186,14 @@ fn put_pairs(
         votes.len(),
         snr.len(),
         pick.n,
-    ) {
-        Answer::Refused(why) => Pairs::Refused(why),
-        Answer::Done => {
-            aggregate_outputs::write_all(
-                pick, xs, ys, snrs, ras, decs, px, py, ra, dec, votes, snr,
-            );
-            Pairs::Found(pick.n)
-        }
-    }
+    )?;
+    aggregate_outputs::write_all(pick, xs, ys, snrs, ras, decs, px, py, ra, dec, votes, snr);
+    Ok(pick.n)
 }
 
 // The pairs that the matches vote for, one value of each pair in each of the six lists; or a refusal,
 // which changes nothing. A match is eight star places; images has a detection id for each image star.
+#[tactic(auto, unfolding(crate::specs::Extract::pairs_answer, crate::specs::Extract::vote_pairs))]
 pub fn extract_pairs(
     matches: &[u8],
     xs: &[f64],
@@ -233,7 +210,7 @@ pub fn extract_pairs(
     dec: &mut [f64],
     votes: &mut [u32],
     snr: &mut [f64],
-) -> Pairs
+) -> Result<usize, Refusal>
     ensures answer { result ≡ pairs_answer (given matches.now xs.now ys.now snrs.now images.now catalogue.now
         results.now ras.now decs.now)
         (room (length px.old) (length py.old) (length ra.old) (length dec.old) (length votes.old) (length snr.old)) }
@@ -250,11 +227,8 @@ pub fn extract_pairs(
     ensures snr { snr.new ≡ lent_after (answer_of result) (pair_snrs (given matches.now xs.now ys.now snrs.now images.now catalogue.now
         results.now ras.now decs.now)) snr.old }
 {
-    match check_input(matches, xs, ys, snrs, images, catalogue, results, ras, decs) {
-        Answer::Refused(why) => Pairs::Refused(why),
-        Answer::Done => put_pairs(
-            matches, xs, ys, snrs, images, catalogue, results, ras, decs, px, py, ra, dec, votes,
-            snr,
-        ),
-    }
+    check_input(matches, xs, ys, snrs, images, catalogue, results, ras, decs)?;
+    put_pairs(
+        matches, xs, ys, snrs, images, catalogue, results, ras, decs, px, py, ra, dec, votes, snr,
+    )
 }

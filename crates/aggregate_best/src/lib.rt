@@ -92,15 +92,13 @@ fn best_of(results: &[i64], table: &[u32], d: DetectionId) -> Choice
         at: ResultPlace(0),
         votes: 0,
     };
-    let mut r = 0usize;
-    while r < results.len() {
+    for r in 0..results.len() {
         c = chosen(
             results,
             c,
             ResultPlace(r),
             votes_at(table, d, ResultPlace(r)),
         );
-        r += 1;
     }
     c
 }
@@ -115,13 +113,11 @@ pub fn all_choices(results: &[i64], table: &[u32], nd: usize) -> Choices
 {
     let mut at = [0usize; 100];
     let mut votes = [0u32; 100];
-    let mut d = 0usize;
-    while d < nd {
+    for d in 0..nd {
         let c = best_of(results, table, DetectionId(d as u32));
         let r = c.at;
         at[d] = r.0;
         votes[d] = c.votes;
-        d += 1;
     }
     Choices {
         at: at,

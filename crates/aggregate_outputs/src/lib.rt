@@ -30,10 +30,8 @@ fn put_values(out: &mut [f64], src: &[f64], order: &[u32], n: usize)
     requires fact_2 { n ≤ length out.old }
     ensures { out.new ≡ gathered (λ d. get_or src.now d nan) order.now n out.old }
 {
-    let mut p = 0usize;
-    while p < n {
+    for p in 0..n {
         out[p] = value_of(src, aggregate_choice::detection_in(order, p));
-        p += 1;
     }
 }
 
@@ -43,11 +41,9 @@ fn put_positions(out: &mut [f64], src: &[f64], at: &[usize], order: &[u32], n: u
     requires fact_2 { n ≤ length out.old }
     ensures { out.new ≡ gathered (λ d. get_or src.now (get_or at.now d 0) nan) order.now n out.old }
 {
-    let mut p = 0usize;
-    while p < n {
+    for p in 0..n {
         let d = aggregate_choice::detection_in(order, p);
         out[p] = coord(src, aggregate_best::choice_of(at, d));
-        p += 1;
     }
 }
 
@@ -57,10 +53,8 @@ fn put_votes(out: &mut [u32], src: &[u32], order: &[u32], n: usize)
     requires fact_2 { n ≤ length out.old }
     ensures { out.new ≡ gathered (λ d. get_or src.now d 0) order.now n out.old }
 {
-    let mut p = 0usize;
-    while p < n {
+    for p in 0..n {
         out[p] = aggregate_best::votes_of(src, aggregate_choice::detection_in(order, p));
-        p += 1;
     }
 }
 

@@ -1,7 +1,7 @@
 // The votes of matches: which count, and how many each pair of ids has.
 #![tactic(auto)]
 
-ghost use Rattle.std.specs.Prelude.{◌≡◌, cond, ℕ, ◌+◌, ◌-◌, ◌*◌, ◌<◌, ◌≤◌, pos, length, get_or, replicate};
+ghost use Rattle.std.specs.Prelude.{◌≡◌, ℕ, ◌+◌, ◌-◌, ◌*◌, ◌<◌, ◌≤◌, pos, length, get_or, replicate};
 ghost use Rattle.std.specs.Int.Signed.{lt_z};
 ghost use Rattle.aggregate_votes.specs.Votes.{same_id, last_of, vote, votes_in, votes_of, ids, missing, votes_at, any_of};
 ghost use Rattle.aggregate_votes.specs.Table.{column_of, misses, cast_vote, cast_all, one_more_of};
@@ -42,7 +42,7 @@ fn catalogue_id(catalogue: &[i64], b: CataloguePlace) -> i64
 fn same_id(a: i64, b: i64) -> bool
     ensures { result ≡ same_id a b }
 {
-    if a == b { true } else { false }
+    a == b
 }
 
 // Whether the id of result i is below the id of result j; ids have a sign.
@@ -59,33 +59,15 @@ pub fn same_at(results: &[i64], i: ResultPlace, j: ResultPlace) -> bool
     same_id(result_id(results, i), result_id(results, j))
 }
 
-// Whether a result and a catalogue star have the same id.
-fn same_star(results: &[i64], r: ResultPlace, catalogue: &[i64], b: CataloguePlace) -> bool
-    ensures { result ≡ same_id (get_or results.now r.0 (pos 0)) (get_or catalogue.now b.0 (pos 0)) }
-{
-    same_id(result_id(results, r), catalogue_id(catalogue, b))
-}
-
-// The later place, where its id is the one that is looked for.
-fn newer(hit: bool, k: usize, old: usize) -> usize
-    ensures { result ≡ cond hit k old }
-{
-    if hit { k } else { old }
-}
-
-// The last result with the id of a catalogue star, counted from 1; 0 where there is none.
-fn last_of(results: &[i64], catalogue: &[i64], b: CataloguePlace) -> usize
-    ensures { result ≡ last_of results.now (get_or catalogue.now b.0 (pos 0)) (length results.now) }
+// The last result with an id, counted from 1; 0 where there is none.
+fn last_of(results: &[i64], id: i64) -> usize
+    ensures { result ≡ last_of results.now id (length results.now) }
 {
     let mut found = 0usize;
-    let mut k = 0usize;
-    while k < results.len() {
-        found = newer(
-            same_star(results, ResultPlace(k), catalogue, b),
-            k + 1,
-            found,
-        );
-        k += 1;
+    for k in 0..results.len() {
+        if same_id(result_id(results, ResultPlace(k)), id) {
+            found = k + 1;
+        }
     }
     found
 }
@@ -96,10 +78,8 @@ fn columns(results: &[i64], catalogue: &[i64]) -> [usize; 256]
     ensures { (j : ℕ) → get_or result j 0 ≡ column_of catalogue.now results.now j }
 {
     let mut cols = [0usize; 256];
-    let mut j = 0usize;
-    while j < catalogue.len() {
-        cols[j] = last_of(results, catalogue, CataloguePlace(j as u8));
-        j += 1;
+    for j in 0..catalogue.len() {
+        cols[j] = last_of(results, catalogue_id(catalogue, CataloguePlace(j as u8)));
     }
     cols
 }
@@ -235,10 +215,8 @@ pub fn tally(
     let cols = columns(results, catalogue);
     let n = matches.len() / 8;
     let mut bad = false;
-    let mut m = 0usize;
-    while m < n {
+    for m in 0..n {
         bad = bad | vote_match(matches, m, images, &cols, nd, table);
-        m += 1;
     }
     bad
 }

@@ -52,33 +52,24 @@ impl Refusal {
     }
 }
 
-// How a call that writes into lent lists ends; also what the tests of an input come to.
-#[derive(Clone, Copy)]
-pub enum Answer {
-    Done,
-    Refused(Refusal),
-}
-
-impl Answer {
-    // The number of the answer: 0 is done.
-    pub fn number(self) -> u32
-        ensures { result ≡ answer_number self }
-    {
-        match self {
-            Answer::Done => 0,
-            Answer::Refused(why) => why.number(),
-        }
+// The number of an answer: 0 is done.
+pub fn number<T: Copy>(answer: Result<T, Refusal>) -> u32
+    ensures { result ≡ answer_number answer }
+{
+    match answer {
+        Ok(_) => 0,
+        Err(refusal) => refusal.number(),
     }
 }
 
 // Whether a lent list has the places that a result needs.
-pub fn room_for(need: usize, places: usize) -> Answer
+pub fn room_for(need: usize, places: usize) -> Result<(), Refusal>
     ensures { result ≡ room_for need places }
 {
     if places < need {
-        return Answer::Refused(Refusal::Room);
+        return Err(Refusal::Room);
     }
-    Answer::Done
+    Ok(())
 }
 
 // Whether a refusal is checked for before the room: 1 to 6, and 11.
@@ -90,14 +81,12 @@ fn is_before_room(why: Refusal) -> bool
 }
 
 // A refusal beside lists that may lack room: the one that is checked for first.
-pub fn in_turn(why: Refusal, room: Answer) -> Answer
+pub fn in_turn(why: Refusal, room: Result<(), Refusal>) -> Result<(), Refusal>
     ensures { result ≡ in_turn why room }
 {
     if is_before_room(why) {
-        return Answer::Refused(why);
+        return Err(why);
     }
-    match room {
-        Answer::Done => Answer::Refused(why),
-        Answer::Refused(lacks) => Answer::Refused(lacks),
-    }
+    room?;
+    Err(why)
 }

@@ -22,8 +22,8 @@ fn all_between(xs: &[f64], low: f64, high: f64) -> bool
     ensures { result ≡ every (between low high) xs.now }
 {
     let mut ok = true;
-    for i in 0..xs.len() {
-        ok = ok & is_between(xs[i], low, high);
+    for x in xs {
+        ok = ok & is_between(*x, low, high);
     }
     ok
 }
@@ -110,8 +110,8 @@ pub fn all_mask_bytes(bytes: &[u8]) -> bool
     ensures { result ≡ every is_mask_byte bytes.now }
 {
     let mut ok = true;
-    for i in 0..bytes.len() {
-        ok = ok & is_mask_byte(bytes[i]);
+    for b in bytes {
+        ok = ok & is_mask_byte(*b);
     }
     ok
 }

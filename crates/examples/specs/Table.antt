@@ -1,5 +1,5 @@
 -- The settled examples P1 to P13, an index, and exact cases of the sums, the elimination and the polynomials, as one table over the written meanings, each row by computation.
-use Rattle.std.specs.Prelude.{◌≡◌, refl, List, [], ◌∷◌, ℕ, pos, Float}
+use Rattle.std.specs.Prelude.{◌≡◌, refl, List, [], ◌∷◌, ℕ, pos, Float, Ok}
 use Rattle.std.specs.Float.{binary64}
 use Rattle.std.specs.Float.Ieee.{of_bits, of_int, to_signed, neg, mul, add, sub, div, lt, eq, le}
 use Rattle.floats.specs.Magnitude.{magnitude_of}
@@ -20,9 +20,7 @@ use Rattle.cd_clip.specs.Clip.{round_of, ended, clip_from, clip_tests, sigma_cli
 use Rattle.floats.specs.Floor.{floor_of}
 use Rattle.domain.specs.Domain.{every}
 use Rattle.quad_stars.specs.Stars.{star_at, four_at, dist_sq, places_of, stars_answer, places_answer, four_answer}
-use Rattle.quad_spine.specs.declared.Spine.TheVariants as spine
 use Rattle.quad_spine.specs.Spine.{longer, longest, in_order_of, oriented, spine_of, spine_answer}
-use Rattle.quad_normal.specs.declared.Normal.TheVariants as normal
 use Rattle.quad_normal.specs.Normal.{along, across, c_first, hash_of, least_scale, scaled_by, normal_of, normal_answer}
 use Rattle.quad_key.specs.declared.Hash.{Hash}
 use Rattle.quad_key.specs.Key.{lane_of, key_of, neighbour_key}
@@ -100,8 +98,8 @@ two = rows (whole 2 ∷ whole 1 ∷ []) (whole 3 ∷ whole 0 ∷ []) (whole 5 �
 -- the rows
 pub record Table : Type 0 where
   -- P1: the square's spine is 0 and 3, and its hash 0.5, -0.5, 0.5, 0.5
-  pub p1_spine : spine_answer xs ys 0 1 2 3 ≡ spine.Found (record { a = 0; b = 3; c = 1; d = 2 })
-  pub p1_hash : normal_answer xs ys 0 3 1 2 ≡ normal.Hashed (record { h0 = half; h1 = neg half; h2 = half; h3 = half; a = 0; b = 3; c = 1; d = 2 })
+  pub p1_spine : spine_answer xs ys 0 1 2 3 ≡ Ok (record { a = 0; b = 3; c = 1; d = 2 })
+  pub p1_hash : normal_answer xs ys 0 3 1 2 ≡ Ok (record { h0 = half; h1 = neg half; h2 = half; h3 = half; a = 0; b = 3; c = 1; d = 2 })
   -- P2: its key number 0
   pub p2 : neighbour_key square 0 ≡ 0x0225_0225_01c1_0225
   -- P3: its key number 40 is its own
@@ -127,7 +125,7 @@ pub record Table : Type 0 where
   pub p12 : pairs_of stars votes 2 ≡ 0 ∷ []
   pub p12_id : id_of stars.results (chosen_by stars votes 0) ≡ pos 7
   -- P13: under the unit CD three rows (0.125,0,0,0) of weight 2 ^ -1074: the clip turns all off, and is done
-  pub p13 : sigma_clip eighths (1 ∷ 1 ∷ 1 ∷ []) same (least ∷ least ∷ least ∷ []) ≡ ended (clipped.Done same) (0 ∷ 0 ∷ 0 ∷ [])
+  pub p13 : sigma_clip eighths (1 ∷ 1 ∷ 1 ∷ []) same (least ∷ least ∷ least ∷ []) ≡ ended (Ok (clipped.Done same)) (0 ∷ 0 ∷ 0 ∷ [])
   -- exact: the weighted sums of the eta axis over the two rows, no step of which rounds
   pub exact_sums : weighted_sums two (1 ∷ 1 ∷ []) (whole 2 ∷ whole 4 ∷ []) eta_of 2 ≡ record { uu = whole 12; uv = whole 12; u = whole 8; vv = whole 18; v = whole 6; one = whole 6; ub = whole 32; vb = whole 42; b = whole 18 }
   -- exact: 2 x + y = 5 and 4 x + 3 y = 13 have the unknowns 1 and 3; the second row is brought up

@@ -1,4 +1,5 @@
 -- The tests of the input, and the answer. Assumes nothing.
+use Rattle.std.specs.Prelude.{Ok, Err}
 use mathlib.Core.Path.{◌≡◌, refl, ◌∙◌}
 use mathlib.Core.Bool.{Bool, true, false, ◌&&◌, ◌||◌, not}
 use mathlib.Core.List.{List}
@@ -10,9 +11,7 @@ use lib.Dec.{ltb, eqb}
 use lib.ListN.{length, get_or, set}
 use lib.Seq.{sets, sets-eq, get_or-set_same, get_or-set_other}
 use Rattle.answer.specs.declared.Refusal.TheVariants as refusal
-use Rattle.answer.specs.declared.Answer.TheVariants as answer
 use Rattle.answer.proofs.Passed.{passed, neither}
-use Rattle.hash_index.specs.declared.Matches.TheVariants as matches
 use Rattle.hash_index.specs.Matches.{too_many, whole, input_answer, room_answer, lent_after_matches}
 use Rattle.hash_index.specs.Steps.{Counted, Taken}
 
@@ -21,11 +20,11 @@ both_true true b h = (refl, h)
 both_true false b h = let z : ◌≡◌ {A = ℕ} 0 1 = cc in absurd (omega arith)
 
 -- what lengths are like that pass the tests
-pub taken : (places hashes catalogue others : ℕ) → input_answer places hashes catalogue others ≡ answer.Done → Taken places hashes catalogue others
+pub taken : (places hashes catalogue others : ℕ) → input_answer places hashes catalogue others ≡ Ok tt → Taken places hashes catalogue others
 unfolding input_answer
 taken places hashes catalogue others h =
     let a = passed (too_many places || (too_many hashes || (too_many catalogue || too_many others))) refusal.Count _ h in
-    let b = passed (not (whole places hashes && whole catalogue others)) refusal.Lengths answer.Done a.1 in
+    let b = passed (not (whole places hashes && whole catalogue others)) refusal.Lengths (Ok tt) a.1 in
     let p = neither (too_many places) (too_many hashes || (too_many catalogue || too_many others)) a.0 in
     let q = neither (too_many hashes) (too_many catalogue || too_many others) p.1 in
     let r = neither (too_many catalogue) (too_many others) q.1 in
@@ -55,16 +54,16 @@ module _ (near : ℕ → List ℕ) where
           let d : k ≡ i = omega arith in rw d (get_or-set_same counts i n 0 h ∙ e)
 
 -- no room for eight places each
-pub no_room : (total n room : ℕ) → n ≡ 8 * total → room < 8 * total → matches.Refused refusal.Room ≡ room_answer n room
+pub no_room : (total n room : ℕ) → n ≡ 8 * total → room < 8 * total → Err refusal.Room ≡ room_answer n room
 unfolding room_answer
 no_room total n room e h = rw (e, lt-ltb room (8 * total) h)
 
-has_room : (total n room : ℕ) → n ≡ 8 * total → 8 * total ≤ room → matches.Found total ≡ room_answer n room
+has_room : (total n room : ℕ) → n ≡ 8 * total → 8 * total ≤ room → Ok total ≡ room_answer n room
 unfolding room_answer
 has_room total n room e h =
     let d : 8 * total / 8 ≡ total = omega arith in rw (e, le-ltb room (8 * total) h, d)
 
 -- all are written
 pub done : (total : ℕ) (all old new : List ℕ) → length all ≡ 8 * total → 8 * total ≤ length old → new ≡ sets old 0 all
-    → (matches.Found total ≡ room_answer (length all) (length old)) × (new ≡ lent_after_matches (matches.Found total) all old)
+    → (Ok total ≡ room_answer (length all) (length old)) × (new ≡ lent_after_matches (Ok total) all old)
 done total all old new e h f = (has_room total (length all) (length old) e h, f ∙ sets-eq all old 0 (omega arith) ∙ rw (zero-add (length all)))

@@ -1,12 +1,11 @@
 -- Worked examples of matches, each by computation.
-use Rattle.std.specs.Prelude.{◌≡◌, refl, List, [], ◌∷◌, ℕ, Float}
+use Rattle.std.specs.Prelude.{◌≡◌, refl, List, [], ◌∷◌, ℕ, Float, Ok, Err}
 use Rattle.std.specs.Float.{binary64}
 use Rattle.std.specs.Float.Ieee.{of_bits, mul, of_int, to_signed}
 use Rattle.floats.specs.Floor.{floor_of}
 use Rattle.answer.specs.declared.Refusal.TheVariants as refusal
 use Rattle.quad_key.specs.Key.{lane_of, key_of, neighbour_key}
 use Rattle.hash_lanes.specs.Lanes.{hash_at}
-use Rattle.hash_index.specs.declared.Matches.TheVariants as matches
 use Rattle.hash_index.specs.Matches.{match_at, quad_matches, matches_of, input_answer, room_answer, matches_answer}
 
 -- a half, and numbers whose lanes are one and two above its lane
@@ -46,20 +45,20 @@ unfolding matches_of quad_matches match_at hash_at key_of neighbour_key lane_of 
 by_number = refl
 
 -- one match needs eight places, and seven are number 7
-room : matches_answer image square sky square 8 ≡ matches.Found 1
+room : matches_answer image square sky square 8 ≡ Ok 1
 unfolding matches_answer input_answer room_answer matches_of quad_matches match_at hash_at key_of neighbour_key lane_of floor_of to_signed of_int mul of_bits
 room = refl
 
-no_room : matches_answer image square sky square 7 ≡ matches.Refused refusal.Room
+no_room : matches_answer image square sky square 7 ≡ Err refusal.Room
 unfolding matches_answer input_answer room_answer matches_of quad_matches match_at hash_at key_of neighbour_key lane_of floor_of to_signed of_int mul of_bits
 no_room = refl
 
 -- three places of a quad are number 2
-not_whole : matches_answer (0 ∷ 1 ∷ 2 ∷ []) square sky square 8 ≡ matches.Refused refusal.Lengths
+not_whole : matches_answer (0 ∷ 1 ∷ 2 ∷ []) square sky square 8 ≡ Err refusal.Lengths
 unfolding matches_answer input_answer
 not_whole = refl
 
 -- no quads have no matches, and need no room
-none : matches_answer [] [] sky square 0 ≡ matches.Found 0
+none : matches_answer [] [] sky square 0 ≡ Ok 0
 unfolding matches_answer input_answer room_answer matches_of
 none = refl

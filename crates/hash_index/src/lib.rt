@@ -4,32 +4,13 @@
 ghost use Rattle.std.specs.Prelude.{◌≡◌, ◌+◌, ◌≤◌, length};
 ghost use Rattle.std.proofs.lemmas.List.Edits.{sets};
 ghost use Rattle.hash_near.specs.Over.{over};
-ghost use Rattle.hash_index.specs.Matches.{whole, input_answer, matches_of, room_answer, matches_answer, lent_after_matches, matches_number};
+ghost use Rattle.hash_index.specs.Matches.{whole, input_answer, matches_of, room_answer, matches_answer, lent_after_matches};
 ghost use Rattle.hash_index.specs.Steps.{Ready, near_to, Counted, near_matches, Taken};
 
-use answer::{Answer, Refusal};
+use answer::Refusal;
 
 // The most quads in a list.
 pub const MOST_QUADS: usize = 12000;
-
-// The answer of find_matches: how many matches were written.
-#[derive(Clone, Copy)]
-pub enum Matches {
-    Found(usize),
-    Refused(Refusal),
-}
-
-impl Matches {
-    // The number of the answer: 0 is done.
-    pub fn number(self) -> u32
-        ensures { result ≡ matches_number self }
-    {
-        match self {
-            Matches::Found(_) => 0,
-            Matches::Refused(why) => why.number(),
-        }
-    }
-}
 
 // Whether places and hash numbers are of whole quads, and of as many.
 fn is_whole(places: &[u8], hashes: &[f64]) -> bool
@@ -39,29 +20,34 @@ fn is_whole(places: &[u8], hashes: &[f64]) -> bool
 }
 
 // The tests of the input, in their order.
-pub fn check_input(places: &[u8], hashes: &[f64], catalogue: &[u8], others: &[f64]) -> Answer
+pub fn check_input(
+    places: &[u8],
+    hashes: &[f64],
+    catalogue: &[u8],
+    others: &[f64],
+) -> Result<(), Refusal>
     ensures { result ≡ input_answer (length places.now) (length hashes.now)
         (length catalogue.now) (length others.now) }
 {
     if MOST_QUADS < places.len() / 4 {
-        return Answer::Refused(Refusal::Count);
+        return Err(Refusal::Count);
     }
     if MOST_QUADS < hashes.len() / 4 {
-        return Answer::Refused(Refusal::Count);
+        return Err(Refusal::Count);
     }
     if MOST_QUADS < catalogue.len() / 4 {
-        return Answer::Refused(Refusal::Count);
+        return Err(Refusal::Count);
     }
     if MOST_QUADS < others.len() / 4 {
-        return Answer::Refused(Refusal::Count);
+        return Err(Refusal::Count);
     }
     if !is_whole(places, hashes) {
-        return Answer::Refused(Refusal::Lengths);
+        return Err(Refusal::Lengths);
     }
     if !is_whole(catalogue, others) {
-        return Answer::Refused(Refusal::Lengths);
+        return Err(Refusal::Lengths);
     }
-    Answer::Done
+    Ok(())
 }
 
 // Counts the near catalogue quads of each of n image quads, of m, and all together.
@@ -151,7 +137,7 @@ fn put_matches(
     catalogue: &[u8],
     others: &[f64],
     matches: &mut [u8],
-) -> Matches
+) -> Result<usize, Refusal>
     requires { Taken (length places.now) (length hashes.now) (length catalogue.now) (length others.now) }
     ensures { (result ≡ room_answer (length (matches_of places.now hashes.now catalogue.now others.now))
         (length matches.old))
@@ -165,31 +151,30 @@ fn put_matches(
     let mut counts = [0u16; 12000];
     let total = count_all(hashes, n, &lanes, m, &mut counts);
     if matches.len() < 8 * total {
-        return Matches::Refused(Refusal::Room);
+        return Err(Refusal::Room);
     }
     let mut found = [0u32; 12000];
     write_all(
         places, hashes, n, catalogue, &lanes, m, &counts, &mut found, matches,
     );
-    Matches::Found(total)
+    Ok(total)
 }
 
 // The matches of the image quads (places, hashes) with the catalogue quads (catalogue, others), eight
 // places each, written from the front of matches; or a refusal, which changes nothing.
+#[tactic(auto, unfolding(crate::specs::Matches::matches_answer))]
 pub fn find_matches(
     places: &[u8],
     hashes: &[f64],
     catalogue: &[u8],
     others: &[f64],
     matches: &mut [u8],
-) -> Matches
+) -> Result<usize, Refusal>
     ensures answer { result ≡ matches_answer places.now hashes.now catalogue.now others.now
         (length matches.old) }
     ensures matches { matches.new ≡ lent_after_matches result
         (matches_of places.now hashes.now catalogue.now others.now) matches.old }
 {
-    match check_input(places, hashes, catalogue, others) {
-        Answer::Refused(why) => Matches::Refused(why),
-        Answer::Done => put_matches(places, hashes, catalogue, others, matches),
-    }
+    check_input(places, hashes, catalogue, others)?;
+    put_matches(places, hashes, catalogue, others, matches)
 }

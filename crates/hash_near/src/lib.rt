@@ -102,6 +102,7 @@ pub fn gather(lanes: &[u16], base: Base, m: usize, n: usize, found: &mut [u32])
 {
     let mut k = 0usize;
     let mut from = 0usize;
+    // a block at a time, until all are found
     while k < n {
         let to = end_of(from, m);
         k = gather_some(lanes, base, from, to, found, k);

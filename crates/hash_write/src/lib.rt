@@ -83,8 +83,8 @@ fn write_number(
         × (matches.new ≡ sets matches.old p (of_number places.now i catalogue.now (take k found.now) n)) }
 {
     let mut q = p;
-    for t in 0..k {
-        q = write_one(places, i, catalogue, n, found[t], matches, q);
+    for x in &found[..k] {
+        q = write_one(places, i, catalogue, n, *x, matches, q);
     }
     q
 }
@@ -111,6 +111,7 @@ pub fn write_quad(
     let end = p + 8 * k;
     let mut q = p;
     let mut n = 0u32;
+    // until the last match is written, mostly long before the last number
     while q < end {
         q = write_number(places, i, catalogue, n, found, k, matches, q);
         n += 1;

@@ -1,4 +1,5 @@
 -- The table of the list is ready, and the answer. Assumes nothing.
+use Rattle.std.specs.Prelude.{Ok}
 use mathlib.Core.Path.{◌≡◌}
 use mathlib.Core.List.{List}
 use Prim.Native.Nat.{ℕ, zero, suc, ◌+◌, ◌-◌, ◌*◌, ◌/◌, ◌≤◌, ◌<◌}
@@ -8,7 +9,6 @@ use lib.Ieee.{Float}
 use lib.ListN.{length, get_or, take}
 use lib.Seq.{sets}
 use Rattle.hash_near.specs.Over.{over}
-use Rattle.hash_index.specs.declared.Matches.TheVariants as matches
 use Rattle.hash_index.specs.Matches.{room_answer}
 use Rattle.hash_index.specs.Steps.{Taken}
 use Rattle.hash_index.proofs.Call as plain
@@ -51,5 +51,5 @@ total_most hashes table m n h f = over_bound 12000 (near_hits table m hashes) 0 
 
 -- all are written
 pub done : (total : ℕ) (all old new : List ℕ) → length all ≡ 8 * total → 8 * total ≤ length old → new ≡ sets old 0 all
-    → Ends room_answer all old (matches.Found total) new
+    → Ends room_answer all old (Ok total) new
 done total all old new e h f = let d = plain.done total all old new e h f in record { answer = d.0; matches = d.1 }

@@ -12,8 +12,7 @@ ghost use Rattle.index_near.specs.Near.{near_hits};
 ghost use Rattle.index_find.specs.Indexed.{tabled, Ends, Found};
 ghost use Rattle.index_find.specs.Steps.{Searched, held_of, Held, image_matches};
 
-use answer::{Answer, Refusal};
-use hash_index::Matches;
+use answer::Refusal;
 
 // So many near places are kept from the count for the writing. Those past them are looked for again.
 const KEPT: usize = 48000;
@@ -147,7 +146,7 @@ fn put_indexed(
     others: &[f64],
     table: &[u64],
     matches: &mut [u8],
-) -> Matches
+) -> Result<usize, Refusal>
     requires fact_1 { Taken (length places.now) (length hashes.now) (length catalogue.now) (length others.now) }
     requires fact_2 { take (length catalogue.now / 4 + length catalogue.now / 4) table.now
         ≡ table_of others.now (length catalogue.now / 4) }
@@ -160,12 +159,12 @@ fn put_indexed(
     let mut counts = [0u16; 12000];
     let total = count_all(hashes, n, table, m, &mut kept, &mut counts);
     if matches.len() < 8 * total {
-        return Matches::Refused(Refusal::Room);
+        return Err(Refusal::Room);
     }
     write_all(
         places, hashes, n, catalogue, table, m, &counts, &mut kept, matches,
     );
-    Matches::Found(total)
+    Ok(total)
 }
 
 // The matches by any table: whether it belongs is asked before there is room.
@@ -176,7 +175,7 @@ fn put_checked(
     others: &[f64],
     table: &[u64],
     matches: &mut [u8],
-) -> Matches
+) -> Result<usize, Refusal>
     requires { Taken (length places.now) (length hashes.now) (length catalogue.now) (length others.now) }
     ensures { Ends (tabled table.now others.now (length catalogue.now / 4))
         (matches_of places.now hashes.now catalogue.now others.now)
@@ -184,7 +183,7 @@ fn put_checked(
 {
     let m = catalogue.len() / 4;
     if !index_table::is_table(others, m, table) {
-        return Matches::Refused(Refusal::Index);
+        return Err(Refusal::Index);
     }
     put_indexed(places, hashes, catalogue, others, table, matches)
 }
@@ -192,6 +191,7 @@ fn put_checked(
 // The matches of the image quads (places, hashes) with the catalogue quads (catalogue, others), by the
 // table of the catalogue quads: those of the plain search, in its order; or a refusal, which changes
 // nothing.
+#[tactic(auto, unfolding(crate::specs::Indexed::indexed_answer))]
 pub fn find_matches_indexed(
     places: &[u8],
     hashes: &[f64],
@@ -199,12 +199,10 @@ pub fn find_matches_indexed(
     others: &[f64],
     table: &[u64],
     matches: &mut [u8],
-) -> Matches
+) -> Result<usize, Refusal>
     ensures { Found places.now hashes.now catalogue.now others.now table.now
         matches.old result matches.new }
 {
-    match hash_index::check_input(places, hashes, catalogue, others) {
-        Answer::Refused(why) => Matches::Refused(why),
-        Answer::Done => put_checked(places, hashes, catalogue, others, table, matches),
-    }
+    hash_index::check_input(places, hashes, catalogue, others)?;
+    put_checked(places, hashes, catalogue, others, table, matches)
 }

@@ -31,6 +31,7 @@ fn lower(table: &[u64], m: usize, lo: usize, hi: usize, key: u64) -> usize
 {
     let mut base = lo;
     let mut len = hi - lo;
+    // halved, not counted
     while 0 < len {
         base = past(table, base, len - len / 2, key);
         len /= 2;
@@ -49,6 +50,7 @@ fn lower_three(table: &[u64], m: usize, first: u64) -> [usize; 3]
     let mut b = 0usize;
     let mut c = 0usize;
     let mut len = m;
+    // halved, not counted
     while 0 < len {
         let half = len - len / 2;
         a = past(table, a, half, first);
@@ -124,6 +126,7 @@ fn gather_from(
 {
     let mut k = start;
     let mut q = n;
+    // as far as the keys are in the range
     while is_within(table, m, to, k) {
         q = gather_one(table, m, from, to, k, found, q);
         k += 1;
@@ -297,7 +300,7 @@ fn keys_of(h: Hash) -> [u64; 81]
     ensures { (length result ≡ 81) × (result ≡ neighbour_keys h) }
 {
     let mut keys = [0u64; 81];
-    quad_key::discrete_hash_key_neighbors(h, &mut keys);
+    let _ = quad_key::discrete_hash_key_neighbors(h, &mut keys);
     keys
 }
 

@@ -79,12 +79,10 @@ fn all_rise(n: usize, table: &[u64]) -> bool
     ensures rise { result ≡ true → (k : ℕ) → k + 1 < n → rises_at n table.now k ≡ true }
     ensures other { result ≡ false → (k : ℕ) × (k + 1 < n) × (rises_at n table.now k ≡ false) }
 {
-    let mut k = 0usize;
-    while k + 1 < n {
+    for k in 0..n.saturating_sub(1) {
         if !rises(n, table, k) {
             return false;
         }
-        k += 1;
     }
     true
 }

@@ -1,4 +1,6 @@
 -- With the table that the build gives, the search by it keeps every promise of the plain search, on every pair of lists. Assumes nothing.
+use Rattle.answer.specs.declared.Refusal.{Refusal}
+use Rattle.std.specs.Prelude.{Result, Ok, Err}
 use mathlib.Core.Path.{◌≡◌, refl, sym, ap}
 use mathlib.Core.Bool.{true}
 use mathlib.Core.List.{List}
@@ -6,8 +8,6 @@ use Prim.Native.Nat.{ℕ, ◌/◌}
 use lib.Ieee.{Float}
 use lib.ListN.{length}
 use Rattle.answer.specs.Answers.{answer_number}
-use Rattle.answer.specs.declared.Answer.{Answer}
-use Rattle.answer.specs.declared.Answer.TheVariants as answer
 use Rattle.answer.proofs.Numbers.{not_done}
 use Rattle.index_table.specs.Table.{belongs}
 use Rattle.index_build.specs.Build.{build_answer}
@@ -16,15 +16,15 @@ use Rattle.index_find.proofs.Same.{same_answer}
 use Rattle.matching_face.specs.Face.{matches_done, MatchesFound}
 use Rattle.matching_face.specs.Index.{IndexBuilt, IndexedFound}
 
-is_done : (a : Answer) → answer_number a ≡ 0 → a ≡ answer.Done
-is_done answer.Done e = refl
-is_done (answer.Refused why) e = absurd (not_done why e)
+is_done : (a : Result Unit Refusal) → answer_number a ≡ 0 → a ≡ Ok tt
+is_done (Ok tt) e = refl
+is_done (Err why) e = absurd (not_done why e)
 
 -- what the build wrote belongs to its list
 pub built_own : (hashes : List Float) (old new : List ℕ) → IndexBuilt hashes old 0 new → belongs new hashes (length hashes / 4) ≡ true
 built_own hashes old new b =
-    let d : build_answer (length hashes) (length old) ≡ answer.Done = is_done _ (sym b.number) in
-    built_belongs hashes old answer.Done new (record { answer = sym d; table = rw d at b.table }) refl
+    let d : build_answer (length hashes) (length old) ≡ (Ok tt) = is_done _ (sym b.number) in
+    built_belongs hashes old (Ok tt) new (record { answer = sym d; table = rw d at b.table }) refl
 
 -- such a search keeps the promise of the plain one
 pub as_plain : (places : List ℕ) (hashes : List Float) (catalogue : List ℕ) (others : List Float) {words table old : List ℕ} {before r : ℕ} {new : List ℕ} {found : ℕ}

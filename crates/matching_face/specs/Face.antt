@@ -1,24 +1,21 @@
 -- What the searches and the votes answer when the result goes into what is lent. Definitions only.
-use Rattle.std.specs.Prelude.{◌≡◌, List, ℕ, ◌/◌, length, Float}
+use Rattle.answer.specs.declared.Refusal.{Refusal}
+use Rattle.std.specs.Prelude.{◌≡◌, List, ℕ, ◌/◌, length, Float, Result, Ok, Err}
 use Rattle.answer.specs.Answers.{answer_number, lent_after, number_after}
-use Rattle.answer.specs.declared.Answer.{Answer}
-use Rattle.answer.specs.declared.Answer.TheVariants as answer
-use Rattle.hash_index.specs.declared.Matches.{Matches}
-use Rattle.hash_index.specs.declared.Matches.TheVariants as matches
 use Rattle.hash_index.specs.Matches.{matches_of, matches_answer}
 use Rattle.aggregate.specs.Extract.{Given, Room, found, answer_of, pairs_answer}
 
 -- whether matches were found
-abbrev pub matches_done : Matches → Answer
-matches_done (matches.Found n) = answer.Done
-matches_done (matches.Refused why) = answer.Refused why
+abbrev pub matches_done : Result ℕ Refusal → Result Unit Refusal
+matches_done (Ok n) = Ok tt
+matches_done (Err why) = Err why
 
 -- the answer of `find_matches`
-abbrev pub matches_face : List ℕ → List Float → List ℕ → List Float → ℕ → Answer
+abbrev pub matches_face : List ℕ → List Float → List ℕ → List Float → ℕ → Result Unit Refusal
 matches_face places hashes catalogue others room = matches_done (matches_answer places hashes catalogue others room)
 
 -- what a search promises: its number, all matches from the front of the lent list, and how many they are, eight places each
-pub record Matched (a : Answer) (all old : List ℕ) (before r : ℕ) (new : List ℕ) (found : ℕ) : Type 0 where
+pub record Matched (a : Result Unit Refusal) (all old : List ℕ) (before r : ℕ) (new : List ℕ) (found : ℕ) : Type 0 where
   pub number : r ≡ answer_number a
   pub matches : new ≡ lent_after a all old
   pub count : found ≡ number_after a (length all / 8) before
@@ -29,7 +26,7 @@ MatchesFound places hashes catalogue others old before r new found =
     Matched (matches_face places hashes catalogue others (length old)) (matches_of places hashes catalogue others) old before r new found
 
 -- the answer of `extract_pairs`
-abbrev pub pairs_face : Given → Room → Answer
+abbrev pub pairs_face : Given → Room → Result Unit Refusal
 pairs_face g o = answer_of (pairs_answer g o)
 
 -- how many pairs there are

@@ -1,7 +1,7 @@
 -- What the calls of the index promise where the result goes into what is lent: said once, for the face and for C. Definitions only.
-use Rattle.std.specs.Prelude.{◌≡◌, List, ℕ, ◌/◌, Float, length}
+use Rattle.answer.specs.declared.Refusal.{Refusal}
+use Rattle.std.specs.Prelude.{◌≡◌, List, ℕ, ◌/◌, Float, length, Result}
 use Rattle.answer.specs.Answers.{answer_number, lent_after}
-use Rattle.answer.specs.declared.Answer.{Answer}
 use Rattle.hash_index.specs.Matches.{matches_of}
 use Rattle.index_table.specs.Table.{table_of}
 use Rattle.index_build.specs.Build.{build_answer}
@@ -14,7 +14,7 @@ pub record IndexBuilt (hashes : List Float) (old : List ℕ) (r : ℕ) (new : Li
   pub table : new ≡ lent_after (build_answer (length hashes) (length old)) (table_of hashes (length hashes / 4)) old
 
 -- the answer of `find_matches_indexed`
-abbrev pub indexed_face : List ℕ → List Float → List ℕ → List Float → List ℕ → ℕ → Answer
+abbrev pub indexed_face : List ℕ → List Float → List ℕ → List Float → List ℕ → ℕ → Result Unit Refusal
 indexed_face places hashes catalogue others table room =
     matches_done (indexed_answer places hashes catalogue others table (length (matches_of places hashes catalogue others)) room)
 

@@ -7,9 +7,6 @@ ghost use Rattle.aggregate.specs.Extract.{given, room, pair_xs, pair_ys, pair_ra
 ghost use Rattle.matching_face.specs.Face.{MatchesFound, pairs_face, pairs_count};
 ghost use Rattle.matching_face.specs.Index.{IndexBuilt, IndexedFound};
 
-use aggregate::Pairs;
-use hash_index::Matches;
-
 // The matches of the image quads (places, hashes) with the catalogue quads (catalogue, others), eight
 // places each, and how many they are.
 pub fn find_matches(
@@ -24,8 +21,8 @@ pub fn find_matches(
         matches.old found.old result matches.new found.new }
 {
     match hash_index::find_matches(places, hashes, catalogue, others, matches) {
-        Matches::Refused(why) => why.number(),
-        Matches::Found(count) => {
+        Err(why) => why.number(),
+        Ok(count) => {
             *found = count as u64;
             0
         }
@@ -39,7 +36,7 @@ pub fn find_matches(
 pub fn build_hash_index(hashes: &[f64], table: &mut [u64]) -> u32
     ensures { IndexBuilt hashes.now table.old result table.new }
 {
-    index_build::build_hash_index(hashes, table).number()
+    answer::number(index_build::build_hash_index(hashes, table))
 }
 
 // The matches that find_matches gives, by the index of the catalogue quads, and how many they are.
@@ -56,8 +53,8 @@ pub fn find_matches_indexed(
         table.now matches.old found.old result matches.new found.new }
 {
     match index_find::find_matches_indexed(places, hashes, catalogue, others, table, matches) {
-        Matches::Refused(why) => why.number(),
-        Matches::Found(count) => {
+        Err(why) => why.number(),
+        Ok(count) => {
             *found = count as u64;
             0
         }
@@ -142,8 +139,8 @@ pub fn extract_pairs(
     match aggregate::extract_pairs(
         matches, xs, ys, snrs, images, catalogue, results, ras, decs, px, py, ra, dec, votes, snr,
     ) {
-        Pairs::Refused(why) => why.number(),
-        Pairs::Found(count) => {
+        Err(why) => why.number(),
+        Ok(count) => {
             *pairs = count as u64;
             0
         }

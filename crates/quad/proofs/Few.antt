@@ -1,4 +1,5 @@
 -- How many quads a list of stars has at most; and with room for them all the answer is never number 7. Assumes nothing.
+use Rattle.std.specs.Prelude.{Ok}
 use Prim.Native.Nat.{ℕ, ◌+◌, ◌-◌, ◌*◌, ◌/◌, ◌≤◌}
 use mathlib.Core.Path.{◌≡◌, refl, sym, ap}
 use mathlib.Core.List.{List, [], ◌∷◌}
@@ -10,7 +11,6 @@ use Rattle.quad_visit.specs.Visit.{visited}
 use Rattle.quad_visit.proofs.Visited.{visited_sets}
 use Rattle.quad.specs.declared.Tried.{Tried}
 use Rattle.quad.specs.declared.Tried.TheVariants as tried
-use Rattle.quad.specs.declared.Quads.TheVariants as quads
 use Rattle.quad.specs.Quads.{quad_of, places_in, all_places, quad_places, input_answer, answer_after, quads_answer}
 use Rattle.quad.proofs.Laws.{few_places, has_room}
 
@@ -65,6 +65,6 @@ module _ (xs ys : List Float) (k : ℕ) (least : Float) where
 
   -- where there is room for all, an input that passes its tests is never refused
   pub room_for_all : (room room-h : ℕ) → length (quad_places xs ys k least) ≤ room → length (quad_places xs ys k least) ≤ room-h
-      → quads_answer xs ys k least room room-h ≡ answer_after (input_answer xs ys k least) (quads.Found (length (quad_places xs ys k least) / 4))
+      → quads_answer xs ys k least room room-h ≡ answer_after (input_answer xs ys k least) (Ok (length (quad_places xs ys k least) / 4))
   unfolding quads_answer
   room_for_all room room-h g h = ap (answer_after (input_answer xs ys k least)) (sym (has_room (length (quad_places xs ys k least)) room room-h g h))

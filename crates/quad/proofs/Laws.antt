@@ -1,4 +1,5 @@
 -- Laws of the quads that are counted and written. Assumes nothing.
+use Rattle.std.specs.Prelude.{Ok, Err}
 use Prim.Native.Nat.{ℕ, suc, ◌+◌, ◌*◌, ◌/◌, ◌≤◌, ◌<◌, min}
 use mathlib.Core.Path.{◌≡◌, refl, sym, ◌∙◌, ap}
 use mathlib.Core.Bool.{Bool, true, false, cond, not, ◌||◌}
@@ -13,14 +14,12 @@ use lib.Ieee.{Float, lt}
 use Rattle.quad_stars.specs.declared.Four.{Four}
 use Rattle.quad_normal.specs.Normal.{scaled_by, normal_of, least_scale}
 use Rattle.answer.specs.declared.Refusal.TheVariants as refusal
-use Rattle.answer.specs.declared.Answer.TheVariants as answer
 use Rattle.answer.proofs.Passed.{passed, neither}
 use Rattle.quad_stars.specs.Stars.{stars_answer, dist_sq}
 use Rattle.quad_visit.specs.Visit.{visited}
 use Rattle.quad_visit.proofs.Laws.{rest}
 use Rattle.quad.specs.declared.Tried.{Tried}
 use Rattle.quad.specs.declared.Tried.TheVariants as tried
-use Rattle.quad.specs.declared.Quads.TheVariants as quads
 use Rattle.quad.specs.Quads.{tried_of, quad_of, places_in, hash_in, all_places, all_hashes, quad_places, quad_hashes, room_answer, lent_after_quads}
 use Rattle.quad.specs.Steps.{Written}
 
@@ -148,11 +147,11 @@ ended {xs} {ys} {least} {all} {p₀} {places₀} {hashes₀} {places} {hashes} {
 -- ---- the whole call
 
 -- the shorter of the two lists has too little room
-no_room : (n room room-h : ℕ) → leb n (min room room-h) ≡ false → quads.Refused refusal.Room ≡ room_answer n room room-h
+no_room : (n room room-h : ℕ) → leb n (min room room-h) ≡ false → Err refusal.Room ≡ room_answer n room room-h
 unfolding room_answer
 no_room n room room-h e = go (ltb room n) refl
   where
-    go : (b : Bool) → ltb room n ≡ b → quads.Refused refusal.Room ≡ cond (b || ltb room-h n) (quads.Refused refusal.Room) (quads.Found (n / 4))
+    go : (b : Bool) → ltb room n ≡ b → Err refusal.Room ≡ cond (b || ltb room-h n) (Err refusal.Room) (Ok (n / 4))
     go true h = refl
     go false h = let k = leb-false n (min room room-h) e in let l = ltb-false room n h in rw (lt-ltb room-h n (omega arith))
 
@@ -161,11 +160,11 @@ pub room_both : (n room room-h : ℕ) → leb n (min room room-h) ≡ true → (
 room_both n room room-h e = let k = leb-true n (min room room-h) e in (omega arith, omega arith)
 
 pub refused : (xs ys : List Float) (k : ℕ) (least : Float) (ss : List ℕ) (room room-h : ℕ) → ss ≡ visited xs ys k
-    → leb (length (all_places xs ys least ss)) (min room room-h) ≡ false → quads.Refused refusal.Room ≡ room_answer (length (quad_places xs ys k least)) room room-h
+    → leb (length (all_places xs ys least ss)) (min room room-h) ≡ false → Err refusal.Room ≡ room_answer (length (quad_places xs ys k least)) room room-h
 unfolding quad_places
 refused xs ys k least ss room room-h e h = no_room (length (all_places xs ys least (visited xs ys k))) room room-h (rw e at h)
 
-pub has_room : (n room room-h : ℕ) → n ≤ room → n ≤ room-h → quads.Found (n / 4) ≡ room_answer n room room-h
+pub has_room : (n room room-h : ℕ) → n ≤ room → n ≤ room-h → Ok (n / 4) ≡ room_answer n room room-h
 unfolding room_answer
 has_room n room room-h g h = rw (le-ltb room n g, le-ltb room-h n h)
 
@@ -176,9 +175,9 @@ from_front l vs h = sets-eq vs l 0 (omega arith) ∙ rw (zero-add (length vs))
 pub done : (xs ys : List Float) (k : ℕ) (least : Float) (places : List ℕ) (hashes : List Float) (ss : List ℕ) (m : ℕ) (places' : List ℕ) (hashes' : List Float)
     → ss ≡ visited xs ys k → length (all_places xs ys least ss) ≤ length places → length (all_places xs ys least ss) ≤ length hashes
     → Written xs ys least ss 0 m places hashes places' hashes'
-    → (quads.Found (m / 4) ≡ room_answer (length (quad_places xs ys k least)) (length places) (length hashes))
-    × (places' ≡ lent_after_quads (quads.Found (m / 4)) (quad_places xs ys k least) places)
-    × (hashes' ≡ lent_after_quads (quads.Found (m / 4)) (quad_hashes xs ys k least) hashes)
+    → (Ok (m / 4) ≡ room_answer (length (quad_places xs ys k least)) (length places) (length hashes))
+    × (places' ≡ lent_after_quads (Ok (m / 4)) (quad_places xs ys k least) places)
+    × (hashes' ≡ lent_after_quads (Ok (m / 4)) (quad_hashes xs ys k least) hashes)
 unfolding quad_places quad_hashes
 done xs ys k least places hashes ss m places' hashes' v l l' w =
     let a = all_places xs ys least (visited xs ys k) in
@@ -192,7 +191,7 @@ done xs ys k least places hashes ss m places' hashes' v l l' w =
 
 -- ---- what an input that passes its tests is like
 
-pub stars_like : (xs ys : List Float) → stars_answer xs ys ≡ answer.Done → (length xs ≤ 100) × (length ys ≡ length xs)
+pub stars_like : (xs ys : List Float) → stars_answer xs ys ≡ Ok tt → (length xs ≤ 100) × (length ys ≡ length xs)
 unfolding stars_answer
 stars_like xs ys h =
     let a = passed (ltb 100 (length xs) || ltb 100 (length ys)) refusal.Count _ h in

@@ -1,4 +1,6 @@
 -- The numbers by which the tests of the input refuse it. Assumes nothing.
+use Rattle.answer.specs.declared.Refusal.{Refusal}
+use Rattle.std.specs.Prelude.{Result, Ok, Err}
 use mathlib.Core.Path.{◌≡◌, refl}
 use mathlib.Core.Logic.{◌⊎◌, inl, inr}
 use mathlib.Core.Bool.{Bool, true, false, cond, not, ◌||◌, ◌&&◌}
@@ -10,8 +12,6 @@ use lib.ListN.{length}
 use lib.Ieee.{Float}
 use Rattle.answer.specs.Answers.{answer_number, first}
 use Rattle.answer.specs.declared.Refusal.TheVariants as refusal
-use Rattle.answer.specs.declared.Answer.{Answer}
-use Rattle.answer.specs.declared.Answer.TheVariants as answer
 use Rattle.domain.specs.Domain.{is_limit, is_position, every}
 use Rattle.quad_stars.specs.Stars.{stars_answer}
 use Rattle.quad.specs.Quads.{count_answer, least_answer, input_answer}
@@ -20,15 +20,18 @@ use Rattle.quad.specs.Quads.{count_answer, least_answer, input_answer}
 abbrev pub Tested : ℕ → Type 0
 Tested n = (n ≡ 0) ⊎ ((n ≡ 1) ⊎ (n ≡ 3))
 
-first_input : (a b : Answer) → Tested (answer_number a) → Tested (answer_number b) → Tested (answer_number (first a b))
-first_input answer.Done b h k = k
-first_input (answer.Refused why) b h k = h
+abbrev done : Result Unit Refusal
+done = Ok tt
 
-count_input : (b : Bool) → Tested (answer_number (cond b (answer.Refused refusal.Count) answer.Done))
+first_input : (a b : Result Unit Refusal) → Tested (answer_number a) → Tested (answer_number b) → Tested (answer_number (first a b))
+first_input (Ok tt) b h k = k
+first_input (Err why) b h k = h
+
+count_input : (b : Bool) → Tested (answer_number (cond b (Err refusal.Count) done))
 count_input true = inr (inl refl)
 count_input false = inl refl
 
-least_input : (b : Bool) → Tested (answer_number (cond b answer.Done (answer.Refused refusal.Value)))
+least_input : (b : Bool) → Tested (answer_number (cond b done (Err refusal.Value)))
 least_input true = inl refl
 least_input false = inr (inr refl)
 
@@ -36,7 +39,7 @@ stars_input : (xs ys : List Float) → length xs ≡ length ys → Tested (answe
 unfolding stars_answer
 stars_input xs ys e = rw (eq-eqb (length xs) (length ys) e) (go (ltb 100 (length xs) || ltb 100 (length ys)) (every is_position xs && every is_position ys))
   where
-    go : (p q : Bool) → Tested (answer_number (cond p (answer.Refused refusal.Count) (cond (not q) (answer.Refused refusal.Value) answer.Done)))
+    go : (p q : Bool) → Tested (answer_number (cond p (Err refusal.Count) (cond (not q) (Err refusal.Value) done)))
     go true q = inr (inl refl)
     go false true = inl refl
     go false false = inr (inr refl)

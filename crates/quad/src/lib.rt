@@ -10,8 +10,8 @@ ghost use Rattle.quad.specs.Quads.{four_of, kept_of, quad_of, places_in, hash_in
 ghost use Rattle.quad.specs.Quads.{quad_hashes, room_answer, quads_answer, lent_after_quads};
 ghost use Rattle.quad.specs.Steps.{span_in, shifts_of, place_in, four_in, Among, Sets, Seeds, Written};
 
-use answer::{Answer, Refusal};
-use quad_normal::{Quad, Scaled};
+use answer::Refusal;
+use quad_normal::Quad;
 use quad_spine::{Apart, Pair};
 use quad_stars::Four;
 
@@ -20,13 +20,6 @@ const MOST_NEIGHBOURS: usize = 10;
 
 // The most places that the quads of one seed write: ten neighbours have 120 sets of three.
 const MOST_PLACES: usize = 480;
-
-// The answer of neighbor_quads: how many quads were written.
-#[derive(Clone, Copy)]
-pub enum Quads {
-    Found(usize),
-    Refused(Refusal),
-}
 
 // What a visited set comes to.
 #[derive(Clone, Copy)]
@@ -106,8 +99,8 @@ fn kept_of(span: f64, f: Four) -> Tried
     ensures { result ≡ kept_of (scaled_by span f) }
 {
     match quad_normal::normalize(span, f) {
-        Scaled::Hash(quad) => Tried::Kept(quad),
-        Scaled::Degenerate => Tried::Degenerate,
+        Some(quad) => Tried::Kept(quad),
+        None => Tried::Degenerate,
     }
 }
 
@@ -279,21 +272,18 @@ fn lesser(a: usize, b: usize) -> usize
 }
 
 // The tests of the input, in their order.
-fn check_input(xs: &[f64], ys: &[f64], k: usize, least: f64) -> Answer
+#[tactic(auto, unfolding(crate::specs::Quads::input_answer))]
+fn check_input(xs: &[f64], ys: &[f64], k: usize, least: f64) -> Result<(), Refusal>
     ensures { result ≡ input_answer xs.now ys.now k least }
 {
     if MOST_NEIGHBOURS < k {
-        return Answer::Refused(Refusal::Count);
+        return Err(Refusal::Count);
     }
-    match quad_stars::check_stars(xs, ys) {
-        Answer::Refused(why) => Answer::Refused(why),
-        Answer::Done => {
-            if domain::is_limit(least) {
-                Answer::Done
-            } else {
-                Answer::Refused(Refusal::Value)
-            }
-        }
+    quad_stars::check_stars(xs, ys)?;
+    if domain::is_limit(least) {
+        Ok(())
+    } else {
+        Err(Refusal::Value)
     }
 }
 
@@ -305,7 +295,7 @@ fn put_quads(
     least: f64,
     places: &mut [u8],
     hashes: &mut [f64],
-) -> Quads
+) -> Result<usize, Refusal>
     requires { (k ≤ 10) × (length xs.now ≤ 100) × FiniteStars xs.now ys.now }
     ensures { (result ≡ room_answer
         (length (quad_places xs.now ys.now k least)) (length places.old) (length hashes.old))
@@ -324,14 +314,15 @@ fn put_quads(
         c,
         lesser(places.len(), hashes.len()),
     ) {
-        return Quads::Refused(Refusal::Room);
+        return Err(Refusal::Room);
     }
     let m = write_all(xs, ys, least, &lists, &words, c, places, hashes);
-    Quads::Found(m / 4)
+    Ok(m / 4)
 }
 
 // The quads of the stars, four places and four hash numbers each, written from the front of both
 // lists; or a refusal, which changes nothing.
+#[tactic(auto, unfolding(crate::specs::Quads::quads_answer))]
 pub fn neighbor_quads(
     xs: &[f64],
     ys: &[f64],
@@ -339,13 +330,11 @@ pub fn neighbor_quads(
     least: f64,
     places: &mut [u8],
     hashes: &mut [f64],
-) -> Quads
+) -> Result<usize, Refusal>
     ensures answer { result ≡ quads_answer xs.now ys.now k least (length places.old) (length hashes.old) }
     ensures places { places.new ≡ lent_after_quads result (quad_places xs.now ys.now k least) places.old }
     ensures hashes { hashes.new ≡ lent_after_quads result (quad_hashes xs.now ys.now k least) hashes.old }
 {
-    match check_input(xs, ys, k, least) {
-        Answer::Refused(why) => Quads::Refused(why),
-        Answer::Done => put_quads(xs, ys, k, least, places, hashes),
-    }
+    check_input(xs, ys, k, least)?;
+    put_quads(xs, ys, k, least, places, hashes)
 }

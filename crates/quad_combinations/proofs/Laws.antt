@@ -1,4 +1,6 @@
 -- From the start the steps give every set of four places below n exactly once, in rising order. Assumes nothing.
+use Rattle.quad_combinations.specs.declared.State.{State}
+use Rattle.std.specs.Prelude.{Ok}
 use mathlib.Core.Path.{◌≡◌, refl, sym, ap, ◌∙◌, subst}
 use mathlib.Core.Logic.{inl, inr, ⊎_elim}
 use mathlib.Core.Bool.{true}
@@ -11,7 +13,6 @@ use borrow.Author.Tests.{lt-ltb, le-ltb}
 use lib.ListN.{length, take}
 use lib.Seq.{take-nil, take_all}
 use Rattle.quad_combinations.specs.declared.Set.{Set}
-use Rattle.quad_combinations.specs.declared.Start.{Start}
 use Rattle.quad_combinations.specs.declared.Step.{Step}
 use Rattle.quad_combinations.specs.Combinations.{four, standing, ended, is_rising, first_of, last_of, start_of, after_of, step_of}
 use Rattle.quad_combinations.specs.All.{sets_below, set_at, lower, Before, run, state_after, AllGiven}
@@ -37,11 +38,11 @@ not_before s = lower_same (lower_same (lower_same (λ p. omega arith)))
 
 -- steps along a chain, for an n that is not refused
 module _ (n : ℕ) (hn : n ≤ 100) where
-  step_at : (s : Set) → Rises n s → step_of (standing n s) ≡ Step.Given s (after_of n s)
+  step_at : (s : Set) → Rises n s → step_of (standing n s) ≡ Ok (Step.Given s (after_of n s))
   unfolding step_of
   step_at s r = rw (le-ltb 100 n hn, is_rising_lem n s r)
 
-  step_ended : (s : Set) → step_of (ended n s) ≡ Step.Ended (ended n s)
+  step_ended : (s : Set) → step_of (ended n s) ≡ Ok (Step.Ended (ended n s))
   unfolding step_of
   step_ended s = rw (le-ltb 100 n hn)
 
@@ -107,7 +108,7 @@ chain_of n h =
 no_sets : (n : ℕ) → n < 4 → sets_below n ≡ []
 no_sets n h = all_from n ∙ no_a n 0 (omega arith)
 
-start : (n : ℕ) → n ≤ 100 → start_of n ≡ Start.Begun (first_of n)
+start : (n : ℕ) → n ≤ 100 → start_of n ≡ Ok (first_of n)
 unfolding start_of
 start n hn = rw (le-ltb 100 n hn)
 

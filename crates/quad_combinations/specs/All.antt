@@ -1,11 +1,11 @@
 -- Every set of four places below n, in rising order; and what a number of steps gives. Definitions only.
-use Rattle.std.specs.Prelude.{◌≡◌, ◌⊎◌, true, ℕ, zero, suc, ◌-◌, ◌≤◌, ◌<◌, length, take, get_or}
+use Rattle.answer.specs.declared.Refusal.{Refusal}
+use Rattle.std.specs.Prelude.{◌≡◌, ◌⊎◌, true, ℕ, zero, suc, ◌-◌, ◌≤◌, ◌<◌, length, take, get_or, Ok, Result, Err}
 use mathlib.Core.List.{List, [], ◌∷◌, ◌++◌, Memᴰ}
 use Rattle.quad_combinations.specs.declared.Set.{Set}
 use Rattle.quad_combinations.specs.declared.State.{State}
-use Rattle.quad_combinations.specs.declared.Start.{Start}
 use Rattle.quad_combinations.specs.declared.Step.{Step}
-use Rattle.quad_combinations.specs.declared.Step.TheVariants.{Given, Ended, Refused}
+use Rattle.quad_combinations.specs.declared.Step.TheVariants.{Given, Ended}
 use Rattle.quad_combinations.specs.Combinations.{four, is_rising, first_of, last_of, start_of, step_of}
 
 -- what f gives for k numbers from i on, one after another
@@ -34,10 +34,10 @@ abbrev pub Before : Set → Set → Type 0
 Before s t = lower s.a t.a (lower s.b t.b (lower s.c t.c (s.d < t.d)))
 
 -- a step's set, and then those that f gives from the state after it
-abbrev pub given_by : (State → List Set) → Step → List Set
-given_by f (Given s t) = s ∷ f t
-given_by f (Ended t) = []
-given_by f (Refused why) = []
+abbrev pub given_by : (State → List Set) → Result Step Refusal → List Set
+given_by f (Ok (Given s t)) = s ∷ f t
+given_by f (Ok (Ended t)) = []
+given_by f (Err why) = []
 
 -- the sets that k steps give
 unfoldable pub run : ℕ → State → List Set
@@ -45,10 +45,10 @@ run zero s = []
 run (suc k) s = given_by (run k) (step_of s)
 
 -- the state after a step; a refused one leaves it as it is
-abbrev pub left_by : State → Step → State
-left_by s (Given x t) = t
-left_by s (Ended t) = t
-left_by s (Refused why) = s
+abbrev pub left_by : State → Result Step Refusal → State
+left_by s (Ok (Given x t)) = t
+left_by s (Ok (Ended t)) = t
+left_by s (Err why) = s
 
 -- the state after k steps
 unfoldable pub state_after : ℕ → State → State
@@ -58,13 +58,13 @@ state_after (suc k) s = state_after k (left_by s (step_of s))
 -- from the start the steps give every set of four places below n exactly once, in rising order
 pub record AllGiven (n : ℕ) : Type 0 where
   -- the start is not refused
-  pub starts : start_of n ≡ Start.Begun (first_of n)
+  pub starts : start_of n ≡ Ok (first_of n)
   -- k steps give the first k sets of the list
   pub given : (k : ℕ) → run k (first_of n) ≡ take k (sets_below n)
   -- as many steps as there are sets, or more, give the whole list
   pub whole : (k : ℕ) → length (sets_below n) ≤ k → run k (first_of n) ≡ sets_below n
   -- when all have been given the steps rest, and each answers that none is left
-  pub rests : (k : ℕ) → length (sets_below n) ≤ k → step_of (state_after k (first_of n)) ≡ Step.Ended (state_after k (first_of n))
+  pub rests : (k : ℕ) → length (sets_below n) ≤ k → step_of (state_after k (first_of n)) ≡ Ok (Step.Ended (state_after k (first_of n)))
   -- after the last set each place has been raised by one
   pub last : 4 ≤ n → (k : ℕ) → length (sets_below n) ≤ k → state_after k (first_of n) ≡ last_of n
   -- the list has only sets of four rising places below n

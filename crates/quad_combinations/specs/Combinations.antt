@@ -1,10 +1,10 @@
 -- The first set of four places below n, and the step from a set to the one after it. Definitions only.
-use Rattle.std.specs.Prelude.{Bool, true, false, cond, ◌&&◌, ℕ, ◌+◌, ◌-◌, ltb}
+use Rattle.answer.specs.declared.Refusal.{Refusal}
+use Rattle.std.specs.Prelude.{Bool, true, false, cond, ◌&&◌, ℕ, ◌+◌, ◌-◌, ltb, Result, Ok, Err}
 use Rattle.answer.specs.Answers.{number_of}
 use Rattle.answer.specs.declared.Refusal.TheVariants.{Count, Place}
 use Rattle.quad_combinations.specs.declared.Set.{Set}
 use Rattle.quad_combinations.specs.declared.State.{State}
-use Rattle.quad_combinations.specs.declared.Start.{Start}
 use Rattle.quad_combinations.specs.declared.Step.{Step}
 
 -- the set of four places
@@ -28,8 +28,8 @@ abbrev pub first_of : ℕ → State
 first_of n = cond (ltb n 4) (ended n (four 0 0 0 0)) (standing n (four 0 1 2 3))
 
 -- n above 100 is refused
-unfoldable pub start_of : ℕ → Start
-start_of n = cond (ltb 100 n) (Start.Refused Count) (Start.Begun (first_of n))
+unfoldable pub start_of : ℕ → Result State Refusal
+start_of n = cond (ltb 100 n) (Err Count) (Ok (first_of n))
 
 -- where no place can rise any more, none is left, and each place is one above its last
 abbrev pub last_of : ℕ → State
@@ -45,19 +45,14 @@ after_of n s =
     (last_of n))))
 
 -- the set that stands there and the state after it, or that none is left; refused for n above 100, then for a set that is not four rising places below n
-unfoldable pub step_of : State → Step
+unfoldable pub step_of : State → Result Step Refusal
 step_of s =
-    cond (ltb 100 s.n) (Step.Refused Count)
-    (cond s.done (Step.Ended s)
-    (cond (is_rising s.n s.set) (Step.Given s.set (after_of s.n s.set)) (Step.Refused Place)))
-
--- the number of a start's answer: 0 is done
-abbrev pub start_number : Start → ℕ
-start_number (Start.Begun s) = 0
-start_number (Start.Refused why) = number_of why
+    cond (ltb 100 s.n) (Err Count)
+    (cond s.done (Ok (Step.Ended s))
+    (cond (is_rising s.n s.set) (Ok (Step.Given s.set (after_of s.n s.set))) (Err Place)))
 
 -- the number of a step's answer: that none is left is done too
-abbrev pub step_number : Step → ℕ
-step_number (Step.Given s t) = 0
-step_number (Step.Ended t) = 0
-step_number (Step.Refused why) = number_of why
+abbrev pub step_number : Result Step Refusal → ℕ
+step_number (Ok (Step.Given s t)) = 0
+step_number (Ok (Step.Ended t)) = 0
+step_number (Err why) = number_of why

@@ -26,19 +26,11 @@ pub struct State {
     pub done: bool,
 }
 
-// How the steps begin.
-#[derive(Clone, Copy)]
-pub enum Start {
-    Begun(State),
-    Refused(Refusal),
-}
-
 // What a step answers: a set and the state after it, or the state in which none is left.
 #[derive(Clone, Copy)]
 pub enum Step {
     Given(Set, State),
     Ended(State),
-    Refused(Refusal),
 }
 
 // The state in which these four are given next.
@@ -60,16 +52,16 @@ fn state_past(n: u32, a: u8, b: u8, c: u8, d: u8) -> State
 }
 
 // The state from which the steps give every set of four places below n.
-pub fn combinations_4(n: u32) -> Start
+pub fn combinations_4(n: u32) -> Result<State, Refusal>
     ensures { result ≡ start_of n }
 {
     if n > MOST {
-        return Start::Refused(Refusal::Count);
+        return Err(Refusal::Count);
     }
     if n < 4 {
-        return Start::Begun(state_past(n, 0, 0, 0, 0));
+        return Ok(state_past(n, 0, 0, 0, 0));
     }
-    Start::Begun(state_at(n, 0, 1, 2, 3))
+    Ok(state_at(n, 0, 1, 2, 3))
 }
 
 impl Set {
@@ -117,20 +109,20 @@ impl Set {
 
 impl State {
     // The set that stands here, and the state after it.
-    pub fn next(self) -> Step
+    pub fn next(self) -> Result<Step, Refusal>
         ensures { result ≡ step_of self }
     {
         let n = self.n;
         let set = self.set;
         if n > MOST {
-            return Step::Refused(Refusal::Count);
+            return Err(Refusal::Count);
         }
         if self.done {
-            return Step::Ended(self);
+            return Ok(Step::Ended(self));
         }
         if set.is_rising(n) {
-            return Step::Given(set, set.after(n));
+            return Ok(Step::Given(set, set.after(n)));
         }
-        Step::Refused(Refusal::Place)
+        Err(Refusal::Place)
     }
 }

@@ -1,4 +1,6 @@
 -- The five bytes of a state read back to the state that was written: after `combinations_4` they hold the first state, and after each step the state that the step leaves. Assumes nothing.
+use Rattle.answer.specs.declared.Refusal.{Refusal}
+use Rattle.std.specs.Prelude.{Ok, Result, Err}
 use mathlib.Core.Path.{◌≡◌, refl, sym, ap}
 use mathlib.Core.Bool.{Bool, true, false, cond}
 use mathlib.Core.List.{List, ◌++◌}
@@ -8,7 +10,6 @@ use lib.Dec.{ltb, eqb}
 use lib.ListN.{length, drop}
 use Rattle.answer.specs.Answers.{written, lent_after}
 use Rattle.answer.specs.declared.Refusal.TheVariants as refusal
-use Rattle.answer.specs.declared.Answer.TheVariants as answer
 use Rattle.quad_combinations.specs.declared.Set.{Set}
 use Rattle.quad_combinations.specs.declared.State.{State}
 use Rattle.quad_combinations.specs.declared.Step.{Step}
@@ -36,10 +37,10 @@ start_back n old h l = rw (le-ltb 100 n h, le-ltb (length old) 5 l) (go (ltb n 4
     go false = refl
 
 -- a step keeps n, and where none is left the state
-abbrev pub Leads : State → Step → Type 0
-Leads s (step.Given x t) = t.n ≡ s.n
-Leads s (step.Ended t) = t ≡ s
-Leads s (step.Refused why) = Unit {0}
+abbrev pub Leads : State → Result Step Refusal → Type 0
+Leads s (Ok (step.Given x t)) = t.n ≡ s.n
+Leads s (Ok (step.Ended t)) = t ≡ s
+Leads s (Err why) = Unit {0}
 
 -- the state after a set has the same n
 after_n : (n : ℕ) (s : Set) → (after_of n s).n ≡ n
@@ -61,19 +62,19 @@ pub leads : (s : State) → Leads s (step_of s)
 unfolding step_of
 leads s = go (ltb 100 s.n) s.done (is_rising s.n s.set) (after_of s.n s.set) (after_n s.n s.set)
   where
-    go : (p q r : Bool) (t : State) → t.n ≡ s.n → Leads s (cond p (step.Refused refusal.Count) (cond q (step.Ended s) (cond r (step.Given s.set t) (step.Refused refusal.Place))))
+    go : (p q r : Bool) (t : State) → t.n ≡ s.n → Leads s (cond p (Err refusal.Count) (cond q (Ok (step.Ended s)) (cond r (Ok (step.Given s.set t)) (Err refusal.Place))))
     go true q r t e = tt
     go false true r t e = refl
     go false false true t e = e
     go false false false t e = tt
 
 -- the bytes that a step writes hold the state that it leaves
-step_back : (n : ℕ) (bytes : List ℕ) (t : Step) → Leads (state_in n bytes) t → state_in n (written (step_bytes t) bytes) ≡ left_by (state_in n bytes) t
-step_back n bytes (step.Given x t) h = rw (← h) (state_back t (drop 5 bytes))
-step_back n bytes (step.Ended t) h = sym h
-step_back n bytes (step.Refused why) h = refl
+step_back : (n : ℕ) (bytes : List ℕ) (t : Result Step Refusal) → Leads (state_in n bytes) t → state_in n (written (step_bytes t) bytes) ≡ left_by (state_in n bytes) t
+step_back n bytes (Ok (step.Given x t)) h = rw (← h) (state_back t (drop 5 bytes))
+step_back n bytes (Ok (step.Ended t)) h = sym h
+step_back n bytes (Err why) h = refl
 
 -- after a step the bytes hold the state that it leaves
-pub next_back : (n : ℕ) (bytes : List ℕ) (room : ℕ) → next_face n bytes room ≡ answer.Done
+pub next_back : (n : ℕ) (bytes : List ℕ) (room : ℕ) → next_face n bytes room ≡ Ok tt
     → state_in n (lent_after (next_face n bytes room) (step_bytes (step_from n bytes)) bytes) ≡ left_by (state_in n bytes) (step_from n bytes)
 next_back n bytes room h = rw h (step_back n bytes (step_from n bytes) (leads (state_in n bytes)))

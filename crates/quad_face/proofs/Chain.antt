@@ -1,4 +1,6 @@
 -- Through their five bytes the calls give every set of four places below n exactly once, in rising order. Assumes nothing.
+use Rattle.answer.specs.declared.Refusal.{Refusal}
+use Rattle.std.specs.Prelude.{Result, Ok, Err}
 use mathlib.Core.Path.{◌≡◌, refl, sym, ap, ◌∙◌, subst}
 use mathlib.Core.Bool.{Bool, true, false, cond}
 use mathlib.Core.List.{List, [], ◌∷◌, ◌++◌}
@@ -7,7 +9,6 @@ use native.Mathlib.Omega.{arith}
 use borrow.Author.Tests.{le-ltb, eq-eqb}
 use lib.ListN.{length, get_or, drop, length-drop}
 use Rattle.answer.specs.Answers.{written, lent_after}
-use Rattle.answer.specs.declared.Answer.{Answer}
 use Rattle.domain.specs.Domain.{is_mask_byte}
 use Rattle.quad_combinations.specs.declared.State.{State}
 use Rattle.quad_combinations.specs.declared.Step.{Step}
@@ -42,11 +43,11 @@ module _ (n : ℕ) (hn : n ≤ 100) where
   decided bytes g = rw (le-ltb 100 n hn, eq-eqb (length bytes) 5 g.five, g.flag)
 
   -- what a step does to the bytes and the state in them
-  one_step : (bytes : List ℕ) → Good bytes → (t : Step) → Leads (state_in n bytes) t
+  one_step : (bytes : List ℕ) → Good bytes → (t : Result Step Refusal) → Leads (state_in n bytes) t
       → Good (lent_after (step_done t 4) (step_bytes t) bytes) × (state_in n (lent_after (step_done t 4) (step_bytes t) bytes) ≡ left_by (state_in n bytes) t)
-  one_step bytes g (step.Given x t) h = (state_good t bytes g.five, rw (← h) (state_back t (drop 5 bytes)))
-  one_step bytes g (step.Ended t) h = (g, sym h)
-  one_step bytes g (step.Refused why) h = (g, refl)
+  one_step bytes g (Ok (step.Given x t)) h = (state_good t bytes g.five, rw (← h) (state_back t (drop 5 bytes)))
+  one_step bytes g (Ok (step.Ended t)) h = (g, sym h)
+  one_step bytes g (Err why) h = (g, refl)
 
   next : (bytes : List ℕ) → Good bytes → Good (bytes_next n bytes) × (state_in n (bytes_next n bytes) ≡ left_by (state_in n bytes) (step_from n bytes))
   next bytes g = rw (decided bytes g) (one_step bytes g (step_from n bytes) (leads (state_in n bytes)))
@@ -58,20 +59,20 @@ module _ (n : ℕ) (hn : n ≤ 100) where
   after_calls (suc k) bytes g = let m = next bytes g in after_calls k (bytes_next n bytes) m.0 ∙ ap (state_after k) m.1
 
   -- no set is given
-  abbrev None : Step → Type 0
-  None (step.Given x t) = ⊥
-  None (step.Ended t) = Unit {0}
-  None (step.Refused why) = Unit {0}
+  abbrev None : Result Step Refusal → Type 0
+  None (Ok (step.Given x t)) = ⊥
+  None (Ok (step.Ended t)) = Unit {0}
+  None (Err why) = Unit {0}
 
-  stays : (s : State) (t : Step) → Leads s t → None t → left_by s t ≡ s
-  stays s (step.Given x t) h e = absurd e
-  stays s (step.Ended t) h e = h
-  stays s (step.Refused why) h e = refl
+  stays : (s : State) (t : Result Step Refusal) → Leads s t → None t → left_by s t ≡ s
+  stays s (Ok (step.Given x t)) h e = absurd e
+  stays s (Ok (step.Ended t)) h e = h
+  stays s (Err why) h e = refl
 
-  no_places : (t : Step) → None t → places_by (step_done t 4) t ≡ []
-  no_places (step.Given x t) e = absurd e
-  no_places (step.Ended t) e = refl
-  no_places (step.Refused why) e = refl
+  no_places : (t : Result Step Refusal) → None t → places_by (step_done t 4) t ≡ []
+  no_places (Ok (step.Given x t)) e = absurd e
+  no_places (Ok (step.Ended t)) e = refl
+  no_places (Err why) e = refl
 
   -- where a step gives none, none comes any more
   rests : (k : ℕ) (bytes : List ℕ) → Good bytes → None (step_from n bytes) → places_given n k bytes ≡ []
@@ -80,7 +81,7 @@ module _ (n : ℕ) (hn : n ≤ 100) where
   rests (suc k) bytes g e =
       let m = next bytes g in
       let same : state_in n (bytes_next n bytes) ≡ state_in n bytes = m.1 ∙ stays (state_in n bytes) (step_from n bytes) (leads (state_in n bytes)) e in
-      ap (λ (l : List ℕ). l ++ places_given n k (bytes_next n bytes)) (ap (λ (a : Answer). places_by a (step_from n bytes)) (decided bytes g) ∙ no_places (step_from n bytes) e)
+      ap (λ (l : List ℕ). l ++ places_given n k (bytes_next n bytes)) (ap (λ (a : Result Unit Refusal). places_by a (step_from n bytes)) (decided bytes g) ∙ no_places (step_from n bytes) e)
       ∙ rests k (bytes_next n bytes) m.0 (subst (λ (s : State). None (step_of s)) (sym same) e)
 
   -- k calls give the sets that k steps give
@@ -89,15 +90,15 @@ module _ (n : ℕ) (hn : n ≤ 100) where
   given_calls zero bytes g = refl
   given_calls (suc k) bytes g = go (step_from n bytes) refl (given_calls k (bytes_next n bytes) (next bytes g).0)
     where
-      go : (t : Step) → step_from n bytes ≡ t → places_given n k (bytes_next n bytes) ≡ places_of_all (run k (state_in n (bytes_next n bytes)))
+      go : (t : Result Step Refusal) → step_from n bytes ≡ t → places_given n k (bytes_next n bytes) ≡ places_of_all (run k (state_in n (bytes_next n bytes)))
           → places_given n (suc k) bytes ≡ places_of_all (given_by (run k) t)
-      go (step.Given x t) e f =
+      go (Ok (step.Given x t)) e f =
           let left : state_in n (bytes_next n bytes) ≡ t = (next bytes g).1 ∙ ap (left_by (state_in n bytes)) e in
-          ap (λ (a : Answer). places_by a (step_from n bytes) ++ places_given n k (bytes_next n bytes)) (decided bytes g)
-          ∙ ap (λ (u : Step). places_by (step_done u 4) u ++ places_given n k (bytes_next n bytes)) e
+          ap (λ (a : Result Unit Refusal). places_by a (step_from n bytes) ++ places_given n k (bytes_next n bytes)) (decided bytes g)
+          ∙ ap (λ (u : Result Step Refusal). places_by (step_done u 4) u ++ places_given n k (bytes_next n bytes)) e
           ∙ ap (λ (l : List ℕ). x.a ∷ x.b ∷ x.c ∷ x.d ∷ l) (f ∙ ap (λ (s : State). places_of_all (run k s)) left)
-      go (step.Ended t) e f = rests (suc k) bytes g (subst None (sym e) tt)
-      go (step.Refused why) e f = rests (suc k) bytes g (subst None (sym e) tt)
+      go (Ok (step.Ended t)) e f = rests (suc k) bytes g (subst None (sym e) tt)
+      go (Err why) e f = rests (suc k) bytes g (subst None (sym e) tt)
 
   -- from the start as many calls as there are sets, or more, give every set of four places below n once, in rising order
   pub calls_give_all : (old : List ℕ) → length old ≡ 5 → (k : ℕ) → length (sets_below n) ≤ k → places_given n k (bytes_first n old) ≡ places_of_all (sets_below n)

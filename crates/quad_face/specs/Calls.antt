@@ -1,8 +1,7 @@
 -- Calls of `combinations_4_next` one after another, each on the bytes that the one before it left. Definitions only.
-use Rattle.std.specs.Prelude.{List, [], ◌∷◌, ◌++◌, ℕ, zero, suc}
+use Rattle.answer.specs.declared.Refusal.{Refusal}
+use Rattle.std.specs.Prelude.{List, [], ◌∷◌, ◌++◌, ℕ, zero, suc, Result, Ok, Err}
 use Rattle.answer.specs.Answers.{lent_after}
-use Rattle.answer.specs.declared.Answer.{Answer}
-use Rattle.answer.specs.declared.Answer.TheVariants as answer
 use Rattle.quad_combinations.specs.declared.Set.{Set}
 use Rattle.quad_combinations.specs.declared.Step.{Step}
 use Rattle.quad_face.specs.Face.{start_face, start_written, step_from, step_places, step_bytes, next_face}
@@ -21,9 +20,9 @@ bytes_after n zero bytes = bytes
 bytes_after n (suc k) bytes = bytes_after n k (bytes_next n bytes)
 
 -- the places that a call writes: none on a refusal
-abbrev pub places_by : Answer → Step → List ℕ
-places_by answer.Done t = step_places t
-places_by (answer.Refused why) t = []
+abbrev pub places_by : Result Unit Refusal → Result Step Refusal → List ℕ
+places_by (Ok tt) t = step_places t
+places_by (Err why) t = []
 
 -- the places that k calls write, one set after another
 unfoldable pub places_given : ℕ → ℕ → List ℕ → List ℕ

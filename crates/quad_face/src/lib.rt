@@ -8,9 +8,8 @@ ghost use Rattle.quad.specs.Quads.{quads_answer, quad_places, quad_hashes};
 ghost use Rattle.quad_face.specs.Face.{state_bytes, start_face, start_written, state_in, state_answer, step_done, step_places, step_bytes, step_given};
 ghost use Rattle.quad_face.specs.Face.{step_from, next_face, quads_count, quads_face, hash_from};
 
-use answer::{Answer, Refusal};
-use quad::Quads;
-use quad_combinations::{Set, Start, State, Step};
+use answer::Refusal;
+use quad_combinations::{Set, State, Step};
 use quad_key::Hash;
 
 // 1 for true, 0 for false.
@@ -21,12 +20,12 @@ fn byte_of(b: bool) -> u8
 }
 
 // Writes the five bytes of a state into the front of a list that has the room.
-fn put_state(out: &mut [u8], s: State) -> Answer
+fn put_state(out: &mut [u8], s: State) -> Result<(), Refusal>
     ensures answer { result ≡ room_for 5 (length out.old) }
     ensures after { out.new ≡ lent_after (room_for 5 (length out.old)) (state_bytes s) out.old }
 {
     if out.len() < 5 {
-        return Answer::Refused(Refusal::Room);
+        return Err(Refusal::Room);
     }
     let set = s.set;
     let done = byte_of(s.done);
@@ -35,23 +34,23 @@ fn put_state(out: &mut [u8], s: State) -> Answer
     out[2] = set.c;
     out[3] = set.d;
     out[4] = done;
-    Answer::Done
+    Ok(())
 }
 
 // Whether the bytes are of a state.
-fn check_state(n: u32, bytes: &[u8]) -> Answer
+fn check_state(n: u32, bytes: &[u8]) -> Result<(), Refusal>
     ensures { result ≡ state_answer n bytes.now }
 {
     if n > 100 {
-        return Answer::Refused(Refusal::Count);
+        return Err(Refusal::Count);
     }
     if bytes.len() != 5 {
-        return Answer::Refused(Refusal::Lengths);
+        return Err(Refusal::Lengths);
     }
     if !domain::is_mask_byte(bytes[4]) {
-        return Answer::Refused(Refusal::Value);
+        return Err(Refusal::Value);
     }
-    Answer::Done
+    Ok(())
 }
 
 // The state that the bytes hold.
@@ -70,28 +69,27 @@ fn state_in(n: u32, bytes: &[u8]) -> State
 }
 
 // Writes what a step gives: the set into the places, and then the state after it.
-fn put_step(step: Step, state: &mut [u8], places: &mut [u8], given: &mut u8) -> Answer
+fn put_step(
+    step: Result<Step, Refusal>,
+    state: &mut [u8],
+    places: &mut [u8],
+    given: &mut u8,
+) -> Result<(), Refusal>
     requires { 5 ≤ length state.old }
     ensures answer { result ≡ step_done step (length places.old) }
     ensures state { state.new ≡ lent_after (step_done step (length places.old)) (step_bytes step) state.old }
     ensures places { places.new ≡ lent_after (step_done step (length places.old)) (step_places step) places.old }
     ensures given { given.new ≡ number_after (step_done step (length places.old)) (step_given step) given.old }
 {
-    match step {
-        Step::Given(set, after) => match spine_face::put_four(places, set.a, set.b, set.c, set.d) {
-            Answer::Refused(why) => Answer::Refused(why),
-            Answer::Done => {
-                put_state(state, after);
-                *given = 1;
-                Answer::Done
-            }
-        },
-        Step::Ended(_) => {
-            *given = 0;
-            Answer::Done
+    match step? {
+        Step::Given(set, after) => {
+            spine_face::put_four(places, set.a, set.b, set.c, set.d)?;
+            put_state(state, after)?;
+            *given = 1;
         }
-        Step::Refused(why) => Answer::Refused(why),
+        Step::Ended(_) => *given = 0,
     }
+    Ok(())
 }
 
 // The state from which the steps give every set of four places below n.
@@ -100,8 +98,8 @@ pub fn combinations_4(n: u32, state: &mut [u8]) -> u32
     ensures state { state.new ≡ lent_after (start_face n (length state.old)) (start_written n) state.old }
 {
     match quad_combinations::combinations_4(n) {
-        Start::Refused(why) => why.number(),
-        Start::Begun(s) => put_state(state, s).number(),
+        Err(why) => why.number(),
+        Ok(s) => answer::number(put_state(state, s)),
     }
 }
 
@@ -122,10 +120,10 @@ pub fn combinations_4_next(n: u32, state: &mut [u8], places: &mut [u8], given: &
         given.old }
 {
     match check_state(n, state) {
-        Answer::Refused(why) => why.number(),
-        Answer::Done => {
+        Err(why) => why.number(),
+        Ok(()) => {
             let step = state_in(n, state).next();
-            put_step(step, state, places, given).number()
+            answer::number(put_step(step, state, places, given))
         }
     }
 }
@@ -156,8 +154,8 @@ pub fn neighbor_quads(
         quads.old }
 {
     match quad::neighbor_quads(xs, ys, k as usize, least, places, hashes) {
-        Quads::Refused(why) => why.number(),
-        Quads::Found(count) => {
+        Err(why) => why.number(),
+        Ok(count) => {
             *quads = count as u64;
             0
         }
@@ -179,5 +177,5 @@ pub fn discrete_hash_key_neighbors(h0: f64, h1: f64, h2: f64, h3: f64, keys: &mu
         (neighbour_keys (hash_from h0 h1 h2 h3))
         keys.old }
 {
-    quad_key::discrete_hash_key_neighbors(Hash { h0, h1, h2, h3 }, keys).number()
+    answer::number(quad_key::discrete_hash_key_neighbors(Hash { h0, h1, h2, h3 }, keys))
 }

@@ -1,11 +1,10 @@
 -- The lanes of a number, the key of a hash and its 81 neighbour keys. Definitions only.
-use Rattle.std.specs.Prelude.{ℕ, zero, suc, ◌+◌, ◌-◌, ◌*◌, ◌/◌, ◌%◌, ◌^◌, cond, List, [], ◌∷◌, ℤ, pos, negsuc, from_bits, nat_lt, Float}
+use Rattle.answer.specs.declared.Refusal.{Refusal}
+use Rattle.std.specs.Prelude.{ℕ, zero, suc, ◌+◌, ◌-◌, ◌*◌, ◌/◌, ◌%◌, ◌^◌, cond, List, [], ◌∷◌, ℤ, pos, negsuc, from_bits, nat_lt, Float, Result, Ok, Err}
 use Rattle.std.specs.Float.{binary64}
 use Rattle.std.specs.Float.Ieee.{mul, to_signed}
 use Rattle.floats.specs.Floor.{floor_of}
 use Rattle.answer.specs.declared.Refusal.TheVariants.{Room}
-use Rattle.answer.specs.declared.Answer.{Answer}
-use Rattle.answer.specs.declared.Answer.TheVariants.{Done, Refused}
 use Rattle.quad_key.specs.declared.Hash.{Hash}
 
 -- the rounded product of v and 100
@@ -64,5 +63,5 @@ unfoldable pub neighbour_keys : Hash → List ℕ
 neighbour_keys h = counted (neighbour_key h) 0 81
 
 -- the answer of a call that has so many places for the keys
-abbrev pub keys_answer : ℕ → Answer
-keys_answer places = cond (nat_lt places 81) (Refused Room) Done
+abbrev pub keys_answer : ℕ → Result Unit Refusal
+keys_answer places = cond (nat_lt places 81) (Err Room) (Ok tt)

@@ -7,7 +7,7 @@ ghost use Rattle.answer.specs.Answers.{lent_after};
 ghost use Rattle.quad_key.specs.Key.{held_floor, pattern32, lane_sum, key_of, neighbour_keys, keys_answer};
 ghost use Rattle.quad_key.specs.Steps.{lanes_of, three_keys, nine_keys, keys27};
 
-use answer::{Answer, Refusal};
+use answer::Refusal;
 
 // The four numbers of a quad's hash.
 #[derive(Clone, Copy)]
@@ -118,12 +118,12 @@ fn write_27(keys: &mut [u64], at: usize, low: u64, b: Lanes, c: Lanes, d: Lanes)
 }
 
 // Writes the 81 neighbour keys of a hash, by their number, into the front of keys. There is no loop: straight stores are the fastest.
-pub fn discrete_hash_key_neighbors(h: Hash, keys: &mut [u64]) -> Answer
+pub fn discrete_hash_key_neighbors(h: Hash, keys: &mut [u64]) -> Result<(), Refusal>
     ensures answer { result ≡ keys_answer (length keys.old) }
     ensures after { keys.new ≡ lent_after (keys_answer (length keys.old)) (neighbour_keys h) keys.old }
 {
     if keys.len() < 81 {
-        return Answer::Refused(Refusal::Room);
+        return Err(Refusal::Room);
     }
     let a = three_lanes(h.h0);
     let b = three_lanes(h.h1);
@@ -132,5 +132,5 @@ pub fn discrete_hash_key_neighbors(h: Hash, keys: &mut [u64]) -> Answer
     write_27(keys, 0, a.less as u64, b, c, d);
     write_27(keys, 27, a.own as u64, b, c, d);
     write_27(keys, 54, a.more as u64, b, c, d);
-    Answer::Done
+    Ok(())
 }

@@ -7,7 +7,7 @@ use native.Mathlib.Numerals.{add-one}
 use native.Mathlib.Omega.{arith}
 use borrow.Author.Tests.{eqb-true, eqb-false}
 use lib.Dec.{eqb}
-use lib.ListN.{length, get_or, take, drop, length-take, length-drop, drop_of_length-le}
+use lib.ListN.{length, get_or, take, drop, length-take, length-drop}
 use lib.Seq.{take-take, drop-cons, take-append-le, drop-append-le, drop_at}
 use lib.Ieee.{Float}
 use Rattle.quad_near.specs.Near.{nearest}
@@ -15,16 +15,13 @@ use Rattle.quad_near.proofs.Nearest as near
 use Rattle.quad_near.proofs.Nearest.{Other, near_others}
 use Rattle.quad_visit.specs.Visit.{memb}
 use Rattle.quad_visit.specs.Met.{neighbours}
-use Rattle.quad_visit.proofs.Members.{or_assoc, or_false, each_member}
+use Rattle.quad_visit.proofs.Members.{or_assoc, each_member}
 use Rattle.quad_lists.specs.Lists.{rows_of, bit_at, Lists}
 
 -- ---- whether a byte is in a list: found before i, or in what is left
 
 pub memb_on : (l : List ℕ) (i s : ℕ) (found : Bool) → i < length l → ((found || eqb (get_or l i 0) s) || memb s (drop (i + 1) l)) ≡ (found || memb s (drop i l))
 memb_on l i s found h = rw (drop-cons l i 0 h, add-one) (or_assoc found (eqb (get_or l i 0) s) (memb s (drop (suc i) l)))
-
-pub memb_end : (l : List ℕ) (i s : ℕ) (found : Bool) → length l ≤ i → found ≡ (found || memb s (drop i l))
-memb_end l i s found h = rw (drop_of_length-le l {i = i} h) (sym (or_false found))
 
 -- a part of the lists, as a range gives it
 pub part_is : (lists : List ℕ) (from c : ℕ) → take (from + c - from) (drop from lists) ≡ take c (drop from lists)

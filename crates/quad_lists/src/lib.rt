@@ -9,16 +9,6 @@ ghost use Rattle.quad_visit.specs.Met.{neighbours, new_of};
 ghost use Rattle.quad_visit.specs.Ranks.{cell};
 ghost use Rattle.quad_lists.specs.Lists.{rows_of, bit, bit_at, cell_in, Held, Lists};
 
-// How many neighbours each of n stars has.
-fn count_of(n: usize, k: usize) -> usize
-    ensures { result ≡ min k (n - 1) }
-{
-    if n == 0 {
-        return 0;
-    }
-    if k < n { k } else { n - 1 }
-}
-
 // The word in which the bit of place q alone is on, of the 64 places from `from` on; 0 for any other place.
 fn bit_of(q: u8, from: u8) -> u64
     ensures { (v : ℕ) → v < 64 → bit result v ≡ eqb q (from + v) }
@@ -35,8 +25,8 @@ fn word_of(list: &[u8], from: u8) -> u64
     ensures { (v : ℕ) → v < 64 → bit result v ≡ memb (from + v) list.now }
 {
     let mut word = 0u64;
-    for i in 0..list.len() {
-        word = word | bit_of(list[i], from);
+    for q in list {
+        word = word | bit_of(*q, from);
     }
     word
 }
@@ -74,12 +64,11 @@ pub fn put_lists(lists: &mut [u8], words: &mut [u64], xs: &[f64], ys: &[f64], k:
     ensures { Lists (neighbours xs.now ys.now k) (length xs.now) result
         lists.new words.new }
 {
-    let mut p = 0usize;
-    while p < xs.len() {
+    let n = xs.len();
+    for p in 0..n {
         put_star(lists, words, xs, ys, p, k);
-        p += 1;
     }
-    count_of(xs.len(), k)
+    k.min(n.saturating_sub(1))
 }
 
 // Whether place q is among the neighbours of star p.
@@ -100,10 +89,8 @@ fn put_row(cells: &mut [bool], a: usize, words: &[u64], p: u8, on: bool, near: &
         → cell cells.new a b ≡ (on && bit_at words.now p (get_or near.now b 0)))
         × ((j : ℕ) → j < a * 10 → get_or cells.new j false ≡ get_or cells.old j false) }
 {
-    let mut b = 0usize;
-    while b < near.len() {
-        cells[a * 10 + b] = on & is_near(words, p, near[b]);
-        b += 1;
+    for (b, q) in near.iter().enumerate() {
+        cells[a * 10 + b] = on & is_near(words, p, *q);
     }
 }
 
@@ -114,9 +101,7 @@ fn put_cells(cells: &mut [bool], words: &[u64], seed: u8, near: &[u8])
     ensures { (a b : ℕ) → a < length near.now → b < length near.now
         → cell cells.new a b ≡ cell_in words.now seed (get_or near.now a 0) (get_or near.now b 0) }
 {
-    let mut a = 0usize;
-    while a < near.len() {
-        let p = near[a];
+    for (a, &p) in near.iter().enumerate() {
         put_row(
             cells,
             a,
@@ -125,7 +110,6 @@ fn put_cells(cells: &mut [bool], words: &[u64], seed: u8, near: &[u8])
             (p < seed) & is_near(words, p, seed),
             near,
         );
-        a += 1;
     }
 }
 

@@ -1,19 +1,14 @@
 -- The hash of a quad, and the answer of the call. Each operation is rounded once, in the Rust's order. Definitions only.
-use Rattle.std.specs.Prelude.{Bool, cond, ◌||◌, ◌&&◌, List, ℕ, Float}
+use Rattle.answer.specs.declared.Refusal.{Refusal}
+use Rattle.std.specs.Prelude.{Bool, cond, ◌||◌, ◌&&◌, List, ℕ, Float, Result, Ok, Err, Option, Some, None}
 use Rattle.std.specs.Float.{binary64}
 use Rattle.std.specs.Float.Ieee.{of_bits, add, sub, mul, div, lt, eq, le}
 use Rattle.answer.specs.Answers.{number_of}
 use Rattle.answer.specs.declared.Refusal.TheVariants as refusal
-use Rattle.answer.specs.declared.Answer.{Answer}
-use Rattle.answer.specs.declared.Answer.TheVariants as answer
 use Rattle.quad_stars.specs.declared.Star.{Star}
 use Rattle.quad_stars.specs.declared.Four.{Four}
 use Rattle.quad_stars.specs.Stars.{dist_sq, four_at, four_answer}
 use Rattle.quad_normal.specs.declared.Quad.{Quad}
-use Rattle.quad_normal.specs.declared.Scaled.{Scaled}
-use Rattle.quad_normal.specs.declared.Scaled.TheVariants as scaled
-use Rattle.quad_normal.specs.declared.Normal.{Normal}
-use Rattle.quad_normal.specs.declared.Normal.TheVariants as normal
 
 -- How far r lies along the spine from p to q, in parts of the squared spine.
 unfoldable pub along : Star → Star → Star → Float → Float
@@ -49,10 +44,10 @@ unfoldable pub least_scale : Float
 least_scale = of_bits binary64 0x39b4_484b_feeb_c2a0
 
 -- The hash of four stars whose spine is given, in parts of a scale, unless that is below the least.
-unfoldable pub scaled_by : Float → Four → Scaled
+unfoldable pub scaled_by : Float → Four → Option Quad
 scaled_by scale f =
-    cond (lt scale least_scale) scaled.Degenerate
-    (scaled.Hash
+    cond (lt scale least_scale) None
+    (Some
     (hash_of
     (along f.a f.b f.c scale)
     (across f.a f.b f.c scale)
@@ -61,24 +56,19 @@ scaled_by scale f =
     f))
 
 -- The scale is the squared spine.
-unfoldable pub normal_of : Four → Scaled
+unfoldable pub normal_of : Four → Option Quad
 normal_of f = scaled_by (dist_sq f.a f.b) f
 
 -- A degenerate quad is number 8.
-abbrev pub scaled_answer : Scaled → Normal
-scaled_answer (scaled.Hash quad) = normal.Hashed quad
-scaled_answer scaled.Degenerate = normal.Refused refusal.Degenerate
+abbrev pub scaled_answer : Option Quad → Result Quad Refusal
+scaled_answer (Some quad) = Ok quad
+scaled_answer None = Err refusal.Degenerate
 
 -- The answer of `normalize_quad_ordered` after its tests.
-abbrev pub normal_after : Answer → Scaled → Normal
-normal_after answer.Done s = scaled_answer s
-normal_after (answer.Refused why) s = normal.Refused why
+abbrev pub normal_after : Result Unit Refusal → Option Quad → Result Quad Refusal
+normal_after (Ok tt) s = scaled_answer s
+normal_after (Err why) s = Err why
 
 -- The answer of `normalize_quad_ordered`: numbers 1, 2, 3, 4 and 8, then the quad.
-unfoldable pub normal_answer : List Float → List Float → ℕ → ℕ → ℕ → ℕ → Normal
+unfoldable pub normal_answer : List Float → List Float → ℕ → ℕ → ℕ → ℕ → Result Quad Refusal
 normal_answer xs ys a b c d = normal_after (four_answer xs ys a b c d) (normal_of (four_at xs ys a b c d))
-
--- The number of an answer of `normalize_quad_ordered`: 0 is done.
-abbrev pub normal_number : Normal → ℕ
-normal_number (normal.Hashed quad) = 0
-normal_number (normal.Refused why) = number_of why

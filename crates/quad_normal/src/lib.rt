@@ -2,9 +2,9 @@
 #![tactic(auto)]
 
 ghost use Rattle.std.specs.Prelude.{◌≡◌};
-ghost use Rattle.quad_normal.specs.Normal.{along, across, c_first, hash_of, scaled_by, scaled_answer, normal_answer, normal_number};
+ghost use Rattle.quad_normal.specs.Normal.{along, across, c_first, hash_of, scaled_by, scaled_answer, normal_answer};
 
-use answer::{Answer, Refusal};
+use answer::Refusal;
 use quad_stars::{Four, Star};
 
 // A quad: its hash, and the places of its stars.
@@ -23,32 +23,6 @@ pub struct Quad {
 impl Quad {
     // A squared spine below this cannot be divided by.
     pub const LEAST_SCALE: f64 = 1e-30;
-}
-
-// What four stars come to when they are scaled by their spine.
-#[derive(Clone, Copy)]
-pub enum Scaled {
-    Hash(Quad),
-    Degenerate,
-}
-
-// The answer of normalize_quad_ordered.
-#[derive(Clone, Copy)]
-pub enum Normal {
-    Hashed(Quad),
-    Refused(Refusal),
-}
-
-impl Normal {
-    // The number of the answer: 0 is done.
-    pub fn number(self) -> u32
-        ensures { result ≡ normal_number self }
-    {
-        match self {
-            Normal::Hashed(_) => 0,
-            Normal::Refused(why) => why.number(),
-        }
-    }
 }
 
 // How far r lies along the spine from p to q.
@@ -117,38 +91,42 @@ fn hash_of(cx: f64, cy: f64, dx: f64, dy: f64, f: Four) -> Quad
 }
 
 // The hash of four stars whose spine is given, by its square, unless that is degenerate.
-pub fn normalize(scale: f64, f: Four) -> Scaled
+pub fn normalize(scale: f64, f: Four) -> Option<Quad>
     ensures { result ≡ scaled_by scale f }
 {
     if scale < Quad::LEAST_SCALE {
-        return Scaled::Degenerate;
+        return None;
     }
     let cx = along_of(f.a, f.b, f.c, scale);
     let cy = across_of(f.a, f.b, f.c, scale);
     let dx = along_of(f.a, f.b, f.d, scale);
     let dy = across_of(f.a, f.b, f.d, scale);
-    Scaled::Hash(hash_of(cx, cy, dx, dy, f))
+    Some(hash_of(cx, cy, dx, dy, f))
 }
 
 // The public answer of what four stars come to.
-fn answer_of(s: Scaled) -> Normal
+fn answer_of(s: Option<Quad>) -> Result<Quad, Refusal>
     ensures { result ≡ scaled_answer s }
 {
     match s {
-        Scaled::Hash(quad) => Normal::Hashed(quad),
-        Scaled::Degenerate => Normal::Refused(Refusal::Degenerate),
+        Some(quad) => Ok(quad),
+        None => Err(Refusal::Degenerate),
     }
 }
 
 // The hash of the quad at four places, the spine first, and its places with C and D in order.
-pub fn normalize_quad_ordered(xs: &[f64], ys: &[f64], a: u8, b: u8, c: u8, d: u8) -> Normal
+#[tactic(auto, unfolding(crate::specs::Normal::normal_answer, crate::specs::Normal::normal_of))]
+pub fn normalize_quad_ordered(
+    xs: &[f64],
+    ys: &[f64],
+    a: u8,
+    b: u8,
+    c: u8,
+    d: u8,
+) -> Result<Quad, Refusal>
     ensures { result ≡ normal_answer xs.now ys.now a b c d }
 {
-    match quad_stars::check_four(xs, ys, a, b, c, d) {
-        Answer::Refused(why) => Normal::Refused(why),
-        Answer::Done => {
-            let f = quad_stars::four_at(xs, ys, a, b, c, d);
-            answer_of(normalize(quad_stars::dist_sq(f.a, f.b), f))
-        }
-    }
+    quad_stars::check_four(xs, ys, a, b, c, d)?;
+    let f = quad_stars::four_at(xs, ys, a, b, c, d);
+    answer_of(normalize(quad_stars::dist_sq(f.a, f.b), f))
 }

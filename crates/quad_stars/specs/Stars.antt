@@ -1,12 +1,11 @@
 -- Stars, the four stars of a quad, and what the tests of star lists and of places in them come to. Each operation is rounded once, in the Rust's order. Definitions only.
-use Rattle.std.specs.Prelude.{Bool, cond, not, ◌||◌, ◌&&◌, List, ℕ, ltb, eqb, length, get_or, Float}
+use Rattle.answer.specs.declared.Refusal.{Refusal}
+use Rattle.std.specs.Prelude.{Bool, cond, not, ◌||◌, ◌&&◌, List, ℕ, ltb, eqb, length, get_or, Float, Result, Ok, Err}
 use Rattle.std.specs.Float.{nan, binary64}
 use Rattle.std.specs.Float.Ieee.{add, sub, mul}
 use Rattle.answer.specs.Answers.{first}
 use Rattle.domain.specs.Domain.{is_position, every}
 use Rattle.answer.specs.declared.Refusal.TheVariants as refusal
-use Rattle.answer.specs.declared.Answer.{Answer}
-use Rattle.answer.specs.declared.Answer.TheVariants as answer
 use Rattle.quad_stars.specs.declared.Star.{Star}
 use Rattle.quad_stars.specs.declared.Four.{Four}
 use Rattle.quad_stars.specs.declared.Places.{Places}
@@ -40,19 +39,19 @@ abbrev pub most_stars : ℕ
 most_stars = 100
 
 -- What the tests of two star lists come to: number 1, 2 or 3, or done.
-unfoldable pub stars_answer : List Float → List Float → Answer
+unfoldable pub stars_answer : List Float → List Float → Result Unit Refusal
 stars_answer xs ys =
-    cond (ltb most_stars (length xs) || ltb most_stars (length ys)) (answer.Refused refusal.Count)
-    (cond (not (eqb (length xs) (length ys))) (answer.Refused refusal.Lengths)
-    (cond (not (every is_position xs && every is_position ys)) (answer.Refused refusal.Value)
-    answer.Done))
+    cond (ltb most_stars (length xs) || ltb most_stars (length ys)) (Err refusal.Count)
+    (cond (not (eqb (length xs) (length ys))) (Err refusal.Lengths)
+    (cond (not (every is_position xs && every is_position ys)) (Err refusal.Value)
+    (Ok tt)))
 
 -- What the test of four places in a list of n comes to: number 4, or done.
-unfoldable pub places_answer : ℕ → ℕ → ℕ → ℕ → ℕ → Answer
-places_answer n a b c d = cond (ltb a n && (ltb b n && (ltb c n && ltb d n))) answer.Done (answer.Refused refusal.Place)
+unfoldable pub places_answer : ℕ → ℕ → ℕ → ℕ → ℕ → Result Unit Refusal
+places_answer n a b c d = cond (ltb a n && (ltb b n && (ltb c n && ltb d n))) (Ok tt) (Err refusal.Place)
 
 -- What the tests of two star lists and four places in them come to.
-unfoldable pub four_answer : List Float → List Float → ℕ → ℕ → ℕ → ℕ → Answer
+unfoldable pub four_answer : List Float → List Float → ℕ → ℕ → ℕ → ℕ → Result Unit Refusal
 four_answer xs ys a b c d = first (stars_answer xs ys) (places_answer (length xs) a b c d)
 
 -- Both numbers of a star are positions.

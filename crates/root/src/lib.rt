@@ -30,6 +30,7 @@ fn root_digits(m: u64) -> u64
     let mut bit: u64 = 0x40_0000_0000_0000;
     let mut rest: u64 = m;
     let mut q: u64 = 0;
+    // halved, not counted
     while bit > 0x800_0000 {
         bit = bit / 2;
         rest = rest * 2;

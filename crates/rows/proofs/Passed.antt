@@ -1,4 +1,5 @@
 -- What rows are like that passed their tests. Assumes nothing.
+use Rattle.std.specs.Prelude.{Ok}
 use mathlib.Core.Path.{◌≡◌}
 use mathlib.Core.Bool.{not, ◌&&◌, and-eq-true_iff}
 use Prim.Native.Nat.{◌≤◌}
@@ -6,7 +7,6 @@ use lib.Dec.{leb, eqb}
 use lib.ListN.{length}
 use borrow.Author.Tests.{leb-true, eqb-true, not-false}
 use Rattle.answer.proofs.Passed.{passed}
-use Rattle.answer.specs.declared.Answer.TheVariants as answer
 use Rattle.rows.specs.Rows.{Rows, count, few_rows, even_rows, rows_answer}
 
 -- at most a hundred, in four lists of one length
@@ -16,7 +16,7 @@ pub record Checked (r : Rows) : Type 0 where
   pub xi_long : length r.xi ≡ count r
   pub eta_long : length r.eta ≡ count r
 
-pub checked : (r : Rows) → rows_answer r ≡ answer.Done → Checked r
+pub checked : (r : Rows) → rows_answer r ≡ Ok tt → Checked r
 unfolding rows_answer
 checked r e =
     let f = passed (not (few_rows r)) _ _ e in

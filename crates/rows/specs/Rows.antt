@@ -1,10 +1,9 @@
 -- Rows, and what the calls ask of their lists. Definitions only.
-use Rattle.std.specs.Prelude.{Bool, cond, not, ◌&&◌, List, ℕ, leb, eqb, length, get_or, Float}
+use Rattle.answer.specs.declared.Refusal.{Refusal}
+use Rattle.std.specs.Prelude.{Bool, cond, not, ◌&&◌, List, ℕ, leb, eqb, length, get_or, Float, Result, Ok, Err}
 use Rattle.std.specs.Float.{nan}
 use Rattle.domain.specs.Domain.{is_position, every}
 use Rattle.answer.specs.declared.Refusal.TheVariants as refusal
-use Rattle.answer.specs.declared.Answer.{Answer}
-use Rattle.answer.specs.declared.Answer.TheVariants as answer
 use Rattle.rows.specs.declared.Row.{Row}
 
 -- four lists: the pixels, and the points of the tangent plane
@@ -39,9 +38,9 @@ unfoldable pub position_rows : Rows → Bool
 position_rows r = (every is_position r.px && every is_position r.py) && (every is_position r.xi && every is_position r.eta)
 
 -- what the tests of the rows come to: number 1, 2 or 3, or done.
-unfoldable pub rows_answer : Rows → Answer
+unfoldable pub rows_answer : Rows → Result Unit Refusal
 rows_answer r =
-    cond (not (few_rows r)) (answer.Refused refusal.Count)
-    (cond (not (even_rows r)) (answer.Refused refusal.Lengths)
-    (cond (not (position_rows r)) (answer.Refused refusal.Value)
-    answer.Done))
+    cond (not (few_rows r)) (Err refusal.Count)
+    (cond (not (even_rows r)) (Err refusal.Lengths)
+    (cond (not (position_rows r)) (Err refusal.Value)
+    (Ok tt)))

@@ -4,7 +4,7 @@
 ghost use Rattle.std.specs.Prelude.{◌≡◌, ◌<◌, length};
 ghost use Rattle.rows.specs.Rows.{rows, row_at, few_rows, even_rows, position_rows, rows_answer};
 
-use answer::{Answer, Refusal};
+use answer::Refusal;
 
 // The longest list of rows.
 const MOST_ROWS: usize = 100;
@@ -58,17 +58,17 @@ pub fn position_rows(px: &[f64], py: &[f64], xi: &[f64], eta: &[f64]) -> bool
 }
 
 // Whether the lists are rows: the first of refusals 1, 2 and 3, or done.
-pub fn check_rows(px: &[f64], py: &[f64], xi: &[f64], eta: &[f64]) -> Answer
+pub fn check_rows(px: &[f64], py: &[f64], xi: &[f64], eta: &[f64]) -> Result<(), Refusal>
     ensures { result ≡ rows_answer (rows px.now py.now xi.now eta.now) }
 {
     if !few_rows(px, py, xi, eta) {
-        return Answer::Refused(Refusal::Count);
+        return Err(Refusal::Count);
     }
     if !even_rows(px, py, xi, eta) {
-        return Answer::Refused(Refusal::Lengths);
+        return Err(Refusal::Lengths);
     }
     if !position_rows(px, py, xi, eta) {
-        return Answer::Refused(Refusal::Value);
+        return Err(Refusal::Value);
     }
-    Answer::Done
+    Ok(())
 }

@@ -6,37 +6,36 @@ ghost use Rattle.answer.specs.Answers.{answer_number, room_for, written, lent_af
 ghost use Rattle.spine_face.specs.Face.{spine_face, spine_written, star, orient_face, orient_written, quad_room};
 ghost use Rattle.spine_face.specs.Face.{hash_numbers, quad_bytes, normal_face, hash_written, places_written};
 
-use answer::{Answer, Refusal};
-use quad_normal::{Normal, Quad};
-use quad_spine::{Oriented, Spine};
+use answer::Refusal;
+use quad_normal::Quad;
 use quad_stars::Star;
 
 // Writes two bytes into the front of a list that has the room.
-fn put_two(out: &mut [u8], a: u8, b: u8) -> Answer
+fn put_two(out: &mut [u8], a: u8, b: u8) -> Result<(), Refusal>
     ensures answer { result ≡ room_for 2 (length out.old) }
     ensures after { out.new ≡ lent_after (room_for 2 (length out.old)) (a ∷ b ∷ []) out.old }
 {
     if out.len() < 2 {
-        return Answer::Refused(Refusal::Room);
+        return Err(Refusal::Room);
     }
     out[0] = a;
     out[1] = b;
-    Answer::Done
+    Ok(())
 }
 
 // Writes four bytes into the front of a list that has the room.
-pub fn put_four(out: &mut [u8], a: u8, b: u8, c: u8, d: u8) -> Answer
+pub fn put_four(out: &mut [u8], a: u8, b: u8, c: u8, d: u8) -> Result<(), Refusal>
     ensures answer { result ≡ room_for 4 (length out.old) }
     ensures after { out.new ≡ lent_after (room_for 4 (length out.old)) (a ∷ b ∷ c ∷ d ∷ []) out.old }
 {
     if out.len() < 4 {
-        return Answer::Refused(Refusal::Room);
+        return Err(Refusal::Room);
     }
     out[0] = a;
     out[1] = b;
     out[2] = c;
     out[3] = d;
-    Answer::Done
+    Ok(())
 }
 
 // Writes the four hash numbers of a quad into the front of a list.
@@ -51,7 +50,7 @@ fn put_hash(out: &mut [f64], q: Quad)
 }
 
 // Writes a quad into the front of two lists that have the room.
-fn put_quad(hash: &mut [f64], places: &mut [u8], q: Quad) -> Answer
+fn put_quad(hash: &mut [f64], places: &mut [u8], q: Quad) -> Result<(), Refusal>
     ensures answer { result ≡ quad_room (length hash.old) (length places.old) }
     ensures hash { hash.new ≡ lent_after
         (quad_room (length hash.old) (length places.old))
@@ -63,23 +62,19 @@ fn put_quad(hash: &mut [f64], places: &mut [u8], q: Quad) -> Answer
         places.old }
 {
     if hash.len() < 4 {
-        return Answer::Refused(Refusal::Room);
+        return Err(Refusal::Room);
     }
-    match put_four(places, q.a, q.b, q.c, q.d) {
-        Answer::Refused(why) => Answer::Refused(why),
-        Answer::Done => {
-            put_hash(hash, q);
-            Answer::Done
-        }
-    }
+    put_four(places, q.a, q.b, q.c, q.d)?;
+    put_hash(hash, q);
+    Ok(())
 }
 
 // Whether two lists have the room for a quad.
-fn quad_room(hash: usize, places: usize) -> Answer
+fn quad_room(hash: usize, places: usize) -> Result<(), Refusal>
     ensures { result ≡ quad_room hash places }
 {
     if hash < 4 {
-        return Answer::Refused(Refusal::Room);
+        return Err(Refusal::Room);
     }
     answer::room_for(4, places)
 }
@@ -93,8 +88,8 @@ pub fn find_spine(xs: &[f64], ys: &[f64], p0: u8, p1: u8, p2: u8, p3: u8, spine:
         spine.old }
 {
     match quad_spine::find_spine(xs, ys, p0, p1, p2, p3) {
-        Spine::Refused(why) => why.number(),
-        Spine::Found(p) => put_four(spine, p.a, p.b, p.c, p.d).number(),
+        Err(why) => why.number(),
+        Ok(p) => answer::number(put_four(spine, p.a, p.b, p.c, p.d)),
     }
 }
 
@@ -117,8 +112,8 @@ pub fn orient_spine(ax: f64, ay: f64, a: u8, bx: f64, by: f64, b: u8, pair: &mut
         at: b,
     };
     match quad_spine::orient_spine(p, q) {
-        Oriented::Refused(why) => why.number(),
-        Oriented::Pair(first, second) => put_two(pair, first, second).number(),
+        Err(why) => why.number(),
+        Ok((first, second)) => answer::number(put_two(pair, first, second)),
     }
 }
 
@@ -145,10 +140,10 @@ pub fn normalize_quad_ordered(
         places.old }
 {
     match quad_normal::normalize_quad_ordered(xs, ys, a, b, c, d) {
-        Normal::Refused(why) => {
+        Err(why) => {
             let room = quad_room(hash.len(), places.len());
-            answer::in_turn(why, room).number()
+            answer::number(answer::in_turn(why, room))
         },
-        Normal::Hashed(q) => put_quad(hash, places, q).number(),
+        Ok(q) => answer::number(put_quad(hash, places, q)),
     }
 }

@@ -1,23 +1,18 @@
 -- The score of rows: of the affines of a fixed draw, how many rows agree with the best one. Definitions only.
-use Rattle.std.specs.Prelude.{◌≡◌, cond, ℕ, ◌≤◌, ltb, Float}
+use Rattle.answer.specs.declared.Refusal.{Refusal}
+use Rattle.std.specs.Prelude.{◌≡◌, cond, ℕ, ◌≤◌, ltb, Float, Result, Ok, Err}
 use mathlib.Core.List.{List, Memᴰ}
 use Rattle.std.proofs.Math.Option.{Option, some, none}
 use Rattle.std.specs.Float.{binary64}
 use Rattle.std.specs.Float.Ieee.{of_bits}
 use Rattle.answer.specs.Answers.{number_of}
-use Rattle.answer.specs.declared.Answer.{Answer}
-use Rattle.answer.specs.declared.Answer.TheVariants as answer
 use Rattle.rows.specs.Rows.{Rows, row_at, rows_answer}
 use Rattle.rows.specs.Rows as rows
 use Rattle.draw.specs.Draw.{Triple, triples, unless_repeated}
 use Rattle.draw.specs.Best.{count, best, no_refit}
 use Rattle.affine.specs.Affine.{fit_of, agreeing}
 use Rattle.affine.specs.declared.Affine.{Affine}
-use Rattle.affine.specs.declared.AffineFit.{AffineFit}
-use Rattle.affine.specs.declared.AffineFit.TheVariants as fit
 use Rattle.verify_order.specs.Sorted.{sorted_rows}
-use Rattle.verify.specs.declared.Score.{Score}
-use Rattle.verify.specs.declared.Score.TheVariants as score
 
 -- the word before the first draw
 abbrev pub start_word : ℕ
@@ -28,9 +23,9 @@ abbrev pub limit : Float
 limit = of_bits binary64 0x4024_0000_0000_0000
 
 -- the affine of a fit, where there is one
-abbrev pub model_of : AffineFit → Option Affine
-model_of (fit.Fitted m) = some m
-model_of (fit.Refused why) = none
+abbrev pub model_of : Result Affine Refusal → Option Affine
+model_of (Ok m) = some m
+model_of (Err why) = none
 
 -- the affine of the rows at a drawn triple
 unfoldable pub fit_triple : Rows → Triple → Option Affine
@@ -53,18 +48,13 @@ unfoldable pub score_of : Rows → ℕ
 score_of r = count_of r (best (fit_triple r) no_refit (agreeing r limit) (drawn r))
 
 -- the answer of `verify_pairs` after its tests
-abbrev pub score_after : Answer → ℕ → Score
-score_after answer.Done k = score.Scored k
-score_after (answer.Refused why) k = score.Refused why
+abbrev pub score_after : Result Unit Refusal → ℕ → Result ℕ Refusal
+score_after (Ok tt) k = Ok k
+score_after (Err why) k = Err why
 
 -- the answer of `verify_pairs`: numbers 1, 2 and 3; 0 for fewer than three rows; or the score of the rows in order
-unfoldable pub score_answer : Rows → Score
+unfoldable pub score_answer : Rows → Result ℕ Refusal
 score_answer r = score_after (rows_answer r) (cond (ltb (rows.count r) 3) 0 (score_of (sorted_rows r)))
-
--- the number of an answer of `verify_pairs`: 0 is done
-abbrev pub score_number : Score → ℕ
-score_number (score.Scored k) = 0
-score_number (score.Refused why) = number_of why
 
 -- of the drawn triples, none that can be fitted has more than k rows
 abbrev pub NoneBetter : Rows → ℕ → Type 0

@@ -4,29 +4,10 @@
 ghost use Rattle.std.specs.Prelude.{◌≡◌, length};
 ghost use Rattle.rows.specs.Rows.{rows, row_at};
 ghost use Rattle.affine.specs.Affine.{fit_of};
-ghost use Rattle.verify_affine.specs.Calls.{places_answer, fit_after, fit_answer, is_affine, values_answer, inliers_answer, inliers_number};
+ghost use Rattle.verify_affine.specs.Calls.{places_answer, fit_after, fit_answer, is_affine, values_answer, inliers_answer};
 
-use affine::{Affine, AffineFit};
-use answer::{Answer, Refusal};
-
-// The answer of count_affine_inliers.
-#[derive(Clone, Copy)]
-pub enum Inliers {
-    Counted(usize),
-    Refused(Refusal),
-}
-
-impl Inliers {
-    // The number of the answer: 0 is done.
-    pub fn number(self) -> u32
-        ensures { result ≡ inliers_number self }
-    {
-        match self {
-            Inliers::Counted(_) => 0,
-            Inliers::Refused(why) => why.number(),
-        }
-    }
-}
+use affine::Affine;
+use answer::Refusal;
 
 // The fit of three rows, once their places are tested.
 fn fit_places(
@@ -37,7 +18,7 @@ fn fit_places(
     a: usize,
     b: usize,
     c: usize,
-) -> AffineFit
+) -> Result<Affine, Refusal>
     requires fact_1 { length py.now ≡ length px.now }
     requires fact_2 { length xi.now ≡ length px.now }
     requires fact_3 { length eta.now ≡ length px.now }
@@ -48,13 +29,13 @@ fn fit_places(
 {
     let n = px.len();
     if n <= a {
-        return AffineFit::Refused(Refusal::Place);
+        return Err(Refusal::Place);
     }
     if n <= b {
-        return AffineFit::Refused(Refusal::Place);
+        return Err(Refusal::Place);
     }
     if n <= c {
-        return AffineFit::Refused(Refusal::Place);
+        return Err(Refusal::Place);
     }
     let p = rows::row_at(px, py, xi, eta, a);
     let q = rows::row_at(px, py, xi, eta, b);
@@ -63,6 +44,7 @@ fn fit_places(
 }
 
 // The affine of the rows at three places.
+#[tactic(auto, unfolding(crate::specs::Calls::fit_answer))]
 pub fn fit_affine_3pt(
     px: &[f64],
     py: &[f64],
@@ -71,13 +53,11 @@ pub fn fit_affine_3pt(
     a: u8,
     b: u8,
     c: u8,
-) -> AffineFit
+) -> Result<Affine, Refusal>
     ensures { result ≡ fit_answer (rows px.now py.now xi.now eta.now) a b c }
 {
-    match rows::check_rows(px, py, xi, eta) {
-        Answer::Refused(why) => AffineFit::Refused(why),
-        Answer::Done => fit_places(px, py, xi, eta, a as usize, b as usize, c as usize),
-    }
+    rows::check_rows(px, py, xi, eta)?;
+    fit_places(px, py, xi, eta, a as usize, b as usize, c as usize)
 }
 
 // Whether each of an affine's six numbers is finite.
@@ -90,16 +70,17 @@ fn is_affine(m: Affine) -> bool
 }
 
 // Whether an affine and a threshold are in the domain: refusal 3, or done.
-fn check_values(m: Affine, threshold: f64) -> Answer
+fn check_values(m: Affine, threshold: f64) -> Result<(), Refusal>
     ensures { result ≡ values_answer m threshold }
 {
     if is_affine(m) & domain::is_limit(threshold) {
-        return Answer::Done;
+        return Ok(());
     }
-    Answer::Refused(Refusal::Value)
+    Err(Refusal::Value)
 }
 
 // How many rows agree with an affine: their error, in pixels, is below the threshold.
+#[tactic(auto, unfolding(crate::specs::Calls::inliers_answer))]
 pub fn count_affine_inliers(
     px: &[f64],
     py: &[f64],
@@ -107,17 +88,11 @@ pub fn count_affine_inliers(
     eta: &[f64],
     affine: Affine,
     threshold: f64,
-) -> Inliers
+) -> Result<usize, Refusal>
     ensures { result ≡ inliers_answer (rows px.now py.now xi.now eta.now) affine threshold }
 {
-    match rows::check_rows(px, py, xi, eta) {
-        Answer::Refused(why) => Inliers::Refused(why),
-        Answer::Done => match check_values(affine, threshold) {
-            Answer::Refused(why) => Inliers::Refused(why),
-            Answer::Done => {
-                let count = affine::count_agreeing(px, py, xi, eta, affine, threshold);
-                Inliers::Counted(count)
-            }
-        },
-    }
+    rows::check_rows(px, py, xi, eta)?;
+    check_values(affine, threshold)?;
+    let count = affine::count_agreeing(px, py, xi, eta, affine, threshold);
+    Ok(count)
 }

@@ -9,18 +9,16 @@ ghost use Rattle.verify.specs.Score.{NoneBetter};
 ghost use Rattle.verify_face.specs.Face.{affine_numbers, affine_in, affine_face, affine_written, inliers_face, inliers_count};
 ghost use Rattle.verify_face.specs.Face.{score_face, score_count};
 
-use affine::{Affine, AffineFit};
-use answer::{Answer, Refusal};
-use verify::Score;
-use verify_affine::Inliers;
+use affine::Affine;
+use answer::Refusal;
 
 // Writes the six numbers of an affine into the front of a list that has the room.
-fn put_affine(out: &mut [f64], m: Affine) -> Answer
+fn put_affine(out: &mut [f64], m: Affine) -> Result<(), Refusal>
     ensures answer { result ≡ room_for 6 (length out.old) }
     ensures after { out.new ≡ lent_after (room_for 6 (length out.old)) (affine_numbers m) out.old }
 {
     if out.len() < 6 {
-        return Answer::Refused(Refusal::Room);
+        return Err(Refusal::Room);
     }
     out[0] = m.a11;
     out[1] = m.a12;
@@ -28,7 +26,7 @@ fn put_affine(out: &mut [f64], m: Affine) -> Answer
     out[3] = m.a21;
     out[4] = m.a22;
     out[5] = m.ty;
-    Answer::Done
+    Ok(())
 }
 
 // The affine that six numbers make.
@@ -58,11 +56,11 @@ pub fn fit_affine_3pt(
         affine.old }
 {
     match verify_affine::fit_affine_3pt(px, py, xi, eta, a, b, c) {
-        AffineFit::Refused(why) => {
+        Err(why) => {
             let room = answer::room_for(6, affine.len());
-            answer::in_turn(why, room).number()
+            answer::number(answer::in_turn(why, room))
         }
-        AffineFit::Fitted(m) => put_affine(affine, m).number(),
+        Ok(m) => answer::number(put_affine(affine, m)),
     }
 }
 
@@ -90,8 +88,8 @@ pub fn count_affine_inliers(
         return Refusal::Count.number();
     }
     match verify_affine::count_affine_inliers(px, py, xi, eta, affine_in(affine), threshold) {
-        Inliers::Refused(why) => why.number(),
-        Inliers::Counted(count) => {
+        Err(why) => why.number(),
+        Ok(count) => {
             *inliers = count as u64;
             0
         }
@@ -110,8 +108,8 @@ pub fn verify_pairs(px: &[f64], py: &[f64], xi: &[f64], eta: &[f64], score: &mut
         → NoneBetter (sorted_rows (rows px.now py.now xi.now eta.now)) score.new }
 {
     match verify::verify_pairs(px, py, xi, eta) {
-        Score::Refused(why) => why.number(),
-        Score::Scored(count) => {
+        Err(why) => why.number(),
+        Ok(count) => {
             *score = count as u64;
             0
         }

@@ -1,22 +1,12 @@
 -- `aggregate_outputs::put_positions` meets its contract: the first p positions are written, and the rest is as it was. Assumes nothing.
 use lib.Ieee.{nan}
-use mathlib.Core.Path.{◌≡◌, refl}
 use native.Mathlib.Omega.{arith}
-use lib.ListN.{length-set, get_or}
+use lib.ListN.{get_or}
 use Rattle.aggregate_outputs.proofs.Outputs.{put_step}
 use Rattle.aggregate_outputs.proofs.put_positions.Goals as goal
-
-pub loop-p-init : goal.loop-p-init
-loop-p-init c = (omega arith, refl, refl)
 
 pub loop-p-preserved : goal.loop-p-preserved
 loop-p-preserved c =
     let a = c.args in
     let l = c.loop-p in
-    (omega arith, simp length-set l.invariant.1, put_step (λ d. get_or a.src.now (get_or a.at.now d 0) nan) l.p a.order.now a.out.now l.out c.coord.result l.invariant.2 (rw (c.choice_of.ensures, c.detection_in-d.ensures) at c.coord.ensures) (omega (arith, c.requires.fact_1)) (omega (arith, c.requires.fact_2)))
-
-pub shape_of-out : goal.shape_of-out
-shape_of-out c = c.loop-p.invariant.1
-
-pub returns : goal.returns
-returns c = let e : c.loop-p.p ≡ c.args.n = omega arith in rw e at c.loop-p.invariant.2
+    put_step (λ d. get_or a.src.now (get_or a.at.now d 0) nan) l.p a.order.now a.out.now l.out c.coord.result l.invariant (rw (c.choice_of.ensures, c.detection_in-d.ensures) at c.coord.ensures) (omega (arith, c.requires.fact_1)) (omega (arith, c.requires.fact_2))

@@ -5,11 +5,8 @@ use lib.IntN.{pos}
 use lib.ListN.{length, get_or}
 use mathlib.Core.Bool.{cond}
 use mathlib.Core.Path.{◌≡◌}
-use Prim.Native.Nat.{◌≤◌, ◌-◌, ℕ}
+use Prim.Native.Nat.{ℕ}
 use Rattle.aggregate_votes.proofs.columns.Given as goal
 
 abbrev pub invariant-loop-j : goal.invariant-loop-j
-invariant-loop-j l = (l.j ≤ length l.catalogue) × (length l.cols ≡ 256) × ((k : ℕ) → get_or l.cols k 0 ≡ cond (ltb k l.j) (last_of l.results (get_or l.catalogue k (pos 0)) (length l.results)) 0)
-
-abbrev pub decreases-loop-j : goal.decreases-loop-j
-decreases-loop-j l = length l.catalogue - l.j
+invariant-loop-j l = (length l.cols ≡ 256) × ((k : ℕ) → get_or l.cols k 0 ≡ cond (ltb k l.j) (last_of l.results (get_or l.catalogue k (pos 0)) (length l.results)) 0)

@@ -1,13 +1,9 @@
 -- `domain::all_mask_bytes` meets its contract: what is left of the list, tested after what was, comes to the whole. Assumes nothing.
-use borrow.Author.Rules.{rules}
-use Rattle.domain.proofs.Every.{start, again, done}
+use Rattle.domain.proofs.Every.{again, done}
 use Rattle.domain.proofs.all_mask_bytes.Goals as goal
 
-pub loop-i-init : goal.loop-i-init
-loop-i-init c = (start, search rules)
-
-pub loop-i-preserved : goal.loop-i-preserved
-loop-i-preserved c = (again 0 c.is_mask_byte-ok.result c.loop-i.invariant.0 c.loop-i-test.true c.is_mask_byte-ok.ensures, search rules)
+pub loop-b-preserved : goal.loop-b-preserved
+loop-b-preserved c = again 0 c.is_mask_byte-ok.result c.loop-b.invariant c.loop-b-test.true c.is_mask_byte-ok.ensures
 
 pub returns : goal.returns
-returns c = done c.loop-i.invariant.0 c.loop-i-test.false
+returns c = done c.loop-b.invariant c.loop-b-test.false

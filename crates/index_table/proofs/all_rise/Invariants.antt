@@ -2,11 +2,8 @@
 use Rattle.index_table.specs.Steps.{rises_at}
 use mathlib.Core.Bool.{true}
 use mathlib.Core.Path.{◌≡◌}
-use Prim.Native.Nat.{◌≤◌, ◌<◌, ◌-◌, ℕ}
+use Prim.Native.Nat.{◌<◌, ℕ}
 use Rattle.index_table.proofs.all_rise.Given as goal
 
 abbrev pub invariant-loop-k : goal.invariant-loop-k
-invariant-loop-k l = (l.k ≤ l.n) × ((j : ℕ) → j < l.k → rises_at l.n l.table j ≡ true)
-
-abbrev pub decreases-loop-k : goal.decreases-loop-k
-decreases-loop-k l = l.n - l.k
+invariant-loop-k l = (j : ℕ) → j < l.k → rises_at l.n l.table j ≡ true

@@ -3,8 +3,8 @@ use Rattle.answer.specs.Answers.{answer_number}
 use mathlib.Core.Path.{refl, ap, ◌∙◌}
 use Rattle.spine_face.proofs.find_spine.Goals as goal
 
-pub returns-in-Refused : goal.returns-in-Refused
-returns-in-Refused c = rw (← c.find_spine.ensures, c.in-Refused.is) (record { number = c.number.ensures; spine = refl })
+pub returns-in-Err : goal.returns-in-Err
+returns-in-Err c = rw (← c.find_spine.ensures, c.in-Err.is) (record { number = c.number.ensures; spine = refl })
 
-pub returns-in-Found : goal.returns-in-Found
-returns-in-Found c = rw (← c.find_spine.ensures, c.in-Found.is) (record { number = c.number-in-Found.ensures ∙ ap answer_number c.put_four.ensures.answer; spine = c.put_four.ensures.after })
+pub returns-in-Ok : goal.returns-in-Ok
+returns-in-Ok c = rw (← c.find_spine.ensures, c.in-Ok.is) (record { number = c.number-in-Ok.ensures ∙ ap answer_number c.put_four.ensures.answer; spine = c.put_four.ensures.after })

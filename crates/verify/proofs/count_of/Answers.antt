@@ -9,10 +9,10 @@ returns-then-is_repeated c = rw (← c.is_repeated.ensures, c.if-is_repeated.tru
 pub count_agreeing-requires : goal.count_agreeing-requires
 count_agreeing-requires c = record { fact_1 = c.requires.py_len_1; fact_2 = c.requires.py_len_2; fact_3 = c.requires.py_len_3 }
 
-pub returns-in-Refused : goal.returns-in-Refused
+pub returns-in-Err : goal.returns-in-Err
 unfolding fit_triple
-returns-in-Refused c = rw (← c.is_repeated.ensures, c.if-is_repeated.false, ← c.row_at-p.ensures, ← c.row_at-q.ensures, ← c.row_at-r.ensures, ← c.fit_rows.ensures, c.in-Refused.is)
+returns-in-Err c = rw (← c.is_repeated.ensures, c.if-is_repeated.false, ← c.row_at-p.ensures, ← c.row_at-q.ensures, ← c.row_at-r.ensures, ← c.fit_rows.ensures, c.in-Err.is)
 
-pub returns-in-Fitted : goal.returns-in-Fitted
+pub returns-in-Ok : goal.returns-in-Ok
 unfolding fit_triple
-returns-in-Fitted c = rw (← c.is_repeated.ensures, c.if-is_repeated.false, ← c.row_at-p.ensures, ← c.row_at-q.ensures, ← c.row_at-r.ensures, ← c.fit_rows.ensures, c.in-Fitted.is) c.count_agreeing.ensures
+returns-in-Ok c = rw (← c.is_repeated.ensures, c.if-is_repeated.false, ← c.row_at-p.ensures, ← c.row_at-q.ensures, ← c.row_at-r.ensures, ← c.fit_rows.ensures, c.in-Ok.is) c.count_agreeing.ensures

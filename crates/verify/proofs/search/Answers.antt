@@ -1,4 +1,5 @@
 -- `verify::search` meets its contract: after so many trials the word and the best count are those of the definition's run. Assumes nothing.
+use Prim.Native.Nat.{max}
 use borrow.Author.Rules.{rules}
 use Rattle.verify.specs.Score.{fit_triple, limit, start_word, score_of, drawn}
 use Rattle.draw.proofs.Drawing.{triple_in}
@@ -20,9 +21,10 @@ pub loop-preserved : goal.loop-preserved
 loop-preserved c =
     let l = c.loop in
     let s = c.args in
+    let e : c.max-best.result ≡ max l.best c.count_of.result = omega arith in
     let r = rows s.px.now s.py.now s.xi.now s.eta.now in (
       search rules,
-      rw c.larger-best.ensures (scoring_one (fit_triple r) (agreeing r limit) (length s.px.now) start_word l.counter l.word l.best l.invariant.1 _ _ (ap (λ t. t.word) c.draw_three-t.ensures) (c.count_of.ensures ∙ rw c.draw_three-t.ensures)),
+      rw e (scoring_one (fit_triple r) (agreeing r limit) (length s.px.now) start_word l.counter l.word l.best l.invariant.1 _ _ (ap (λ t. t.word) c.draw_three-t.ensures) (c.count_of.ensures ∙ rw c.draw_three-t.ensures)),
     )
 
 pub returns : goal.returns

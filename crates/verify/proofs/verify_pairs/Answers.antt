@@ -7,17 +7,9 @@ use native.Mathlib.Omega.{arith}
 use mathlib.Core.Path.{◌∙◌, sym}
 use Rattle.verify.proofs.verify_pairs.Goals as goal
 
-pub returns-then-px-lt3 : goal.returns-then-px-lt3
-unfolding score_answer
-returns-then-px-lt3 c = let it = both _ _ (rw (← c.check_rows.ensures, c.in-Done.is, lt-ltb _ _ c.if-px-lt3.true)) in record { answer = it.0; best = it.1 }
-
 pub score_sorted-requires : goal.score_sorted-requires
-score_sorted-requires c = let k = checked _ (sym c.check_rows.ensures ∙ c.in-Done.is) in record { py_len_1 = k.py_long; py_len_2 = k.xi_long; py_len_3 = k.eta_long; px_nonzero_1 = omega arith; px_nonzero_2 = k.few }
+score_sorted-requires c = let k = checked _ (sym c.check_rows.ensures ∙ c.in_ok-check_rows.was) in record { py_len_1 = k.py_long; py_len_2 = k.xi_long; py_len_3 = k.eta_long; px_nonzero_1 = omega arith; px_nonzero_2 = k.few }
 
-pub returns-in-Refused : goal.returns-in-Refused
+pub returns : goal.returns
 unfolding score_answer
-returns-in-Refused c = let it = both _ _ (rw (← c.check_rows.ensures, c.in-Refused.is)) in record { answer = it.0; best = it.1 }
-
-pub returns-else-px-lt3 : goal.returns-else-px-lt3
-unfolding score_answer
-returns-else-px-lt3 c = let it = both _ _ (rw (← c.check_rows.ensures, c.in-Done.is, le-ltb _ _ c.if-px-lt3.false, c.score_sorted.ensures)) in record { answer = it.0; best = it.1 }
+returns c = let it = both _ _ (rw (← c.check_rows.ensures, c.in_ok-check_rows.was, le-ltb _ _ c.if-px-lt3.false, c.score_sorted.ensures)) in record { answer = it.0; best = it.1 }

@@ -5,12 +5,4 @@ use mathlib.Core.Path.{◌∙◌, sym}
 use Rattle.verify_affine.proofs.fit_affine_3pt.Goals as goal
 
 pub fit_places-requires : goal.fit_places-requires
-fit_places-requires c = let k = checked _ (sym c.check_rows.ensures ∙ c.in-Done.is) in record { fact_1 = k.py_long; fact_2 = k.xi_long; fact_3 = k.eta_long }
-
-pub returns-in-Refused : goal.returns-in-Refused
-unfolding fit_answer
-returns-in-Refused c = rw (← c.check_rows.ensures, c.in-Refused.is)
-
-pub returns-in-Done : goal.returns-in-Done
-unfolding fit_answer
-returns-in-Done c = rw (← c.check_rows.ensures, c.in-Done.is) c.fit_places.ensures
+fit_places-requires c = let k = checked _ (sym c.check_rows.ensures ∙ c.in_ok-check_rows.was) in record { fact_1 = k.py_long; fact_2 = k.xi_long; fact_3 = k.eta_long }

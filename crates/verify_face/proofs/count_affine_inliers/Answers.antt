@@ -9,10 +9,10 @@ returns-then-few_rows c = rw (ne_eqb _ _ c.if-affine-ne6.true, ← c.few_rows.en
 pub returns-then-affine-ne6 : goal.returns-then-affine-ne6
 returns-then-affine-ne6 c = rw (ne_eqb _ _ c.if-affine-ne6.true, ← c.few_rows.ensures, c.if-few_rows.false) (record { number = c.number-then-affine-ne6.ensures; inliers = refl })
 
-pub returns-in-Refused : goal.returns-in-Refused
-returns-in-Refused c =
-    let same = c.affine_in.ensures in rw (eq-eqb _ _ c.if-affine-ne6.false, ← same, ← c.count_affine_inliers.ensures, c.in-Refused.is) (record { number = c.number-in-Refused.ensures; inliers = refl })
+pub returns-in-Err : goal.returns-in-Err
+returns-in-Err c =
+    let same = c.affine_in.ensures in rw (eq-eqb _ _ c.if-affine-ne6.false, ← same, ← c.count_affine_inliers.ensures, c.in-Err.is) (record { number = c.number-in-Err.ensures; inliers = refl })
 
-pub returns-in-Counted : goal.returns-in-Counted
-returns-in-Counted c =
-    let same = c.affine_in.ensures in rw (eq-eqb _ _ c.if-affine-ne6.false, ← same, ← c.count_affine_inliers.ensures, c.in-Counted.is) (record { number = refl; inliers = refl })
+pub returns-in-Ok : goal.returns-in-Ok
+returns-in-Ok c =
+    let same = c.affine_in.ensures in rw (eq-eqb _ _ c.if-affine-ne6.false, ← same, ← c.count_affine_inliers.ensures, c.in-Ok.is) (record { number = refl; inliers = refl })

@@ -5,9 +5,9 @@ use Rattle.answer.specs.Answers.{answer_number, room_for, in_turn}
 use Rattle.answer.proofs.Lent.{stays}
 use Rattle.verify_face.proofs.fit_affine_3pt.Goals as goal
 
-pub returns-in-Refused : goal.returns-in-Refused
-returns-in-Refused c =
-    let a = c.args in rw (← c.fit_affine_3pt.ensures, c.in-Refused.is) (record { number = c.number.ensures ∙ ap answer_number (c.in_turn.ensures ∙ ap (in_turn c.in-Refused.why) c.room_for-room.ensures); affine = stays (in_turn c.in-Refused.why (room_for 6 (length a.affine.now))) _ })
+pub returns-in-Err : goal.returns-in-Err
+returns-in-Err c =
+    let a = c.args in rw (← c.fit_affine_3pt.ensures, c.in-Err.is) (record { number = c.number.ensures ∙ ap answer_number (c.in_turn.ensures ∙ ap (in_turn c.in-Err.why) c.room_for-room.ensures); affine = stays (in_turn c.in-Err.why (room_for 6 (length a.affine.now))) _ })
 
-pub returns-in-Fitted : goal.returns-in-Fitted
-returns-in-Fitted c = rw (← c.fit_affine_3pt.ensures, c.in-Fitted.is) (record { number = c.number-in-Fitted.ensures ∙ ap answer_number c.put_affine.ensures.answer; affine = c.put_affine.ensures.after })
+pub returns-in-Ok : goal.returns-in-Ok
+returns-in-Ok c = rw (← c.fit_affine_3pt.ensures, c.in-Ok.is) (record { number = c.number-in-Ok.ensures ∙ ap answer_number c.put_affine.ensures.answer; affine = c.put_affine.ensures.after })
