@@ -1,4 +1,5 @@
 -- What a clip keeps: a row that is off stays off, a clip that ends with fewer than three rows is done, and a refusal leaves the mask. Assumes nothing.
+use Rattle.std.specs.Prelude.{Result, Ok, Err}
 use mathlib.Core.Path.{◌≡◌, refl, ap, ◌∙◌}
 use mathlib.Core.Logic.{◌⊎◌, inl, inr, ⊎_elim}
 use mathlib.Core.Bool.{Bool, true, false, cond, not}
@@ -11,8 +12,6 @@ use lib.Dec.{ltb, eqb}
 use lib.ListN.{length, get_or, get_or-eq_default}
 use lib.Ieee.{Float}
 use Rattle.answer.specs.declared.Refusal.{Refusal}
-use Rattle.answer.specs.declared.Answer.{Answer}
-use Rattle.answer.specs.declared.Answer.TheVariants as answer
 use Rattle.rows.specs.Rows.{Rows}
 use Rattle.cd_plate.specs.declared.Cd.{Cd}
 use Rattle.cd_plate.specs.Plate.{inverse_of}
@@ -20,8 +19,6 @@ use Rattle.cd_plate.specs.Errors.{errors_of}
 use Rattle.cd_plate.specs.Masked.{is_on}
 use Rattle.cd_plate.proofs.Filling.{filled_length, filled_at}
 use Rattle.cd_mask.specs.Marks.{ones}
-use Rattle.cd_fit.specs.declared.CdFit.{CdFit}
-use Rattle.cd_fit.specs.declared.CdFit.TheVariants as fit
 use Rattle.cd_round.specs.declared.Clip.{Clip}
 use Rattle.cd_round.specs.Round.{roots_of, squares_to, clip_of, is_rejected, any_rejected, byte_left, mask_left}
 use Rattle.cd_clip.specs.declared.Clipped.TheVariants as clipped
@@ -61,7 +58,7 @@ either : (mask : List ℕ) (b : Bool) (x y : Round) → Fair mask x → Fair mas
 either mask true x y p q = p
 either mask false x y p q = q
 
-enough : (mask m : List ℕ) (f : CdFit) → Falls mask m → Fair mask (cond (ltb (ones m) 3) (Last m) (Refitted m f))
+enough : (mask m : List ℕ) (f : Result Cd Refusal) → Falls mask m → Fair mask (cond (ltb (ones m) 3) (Last m) (Refitted m f))
 enough mask m f p = go (ltb (ones m) 3) refl
   where
     go : (b : Bool) → ltb (ones m) 3 ≡ b → Fair mask (cond b (Last m) (Refitted m f))
@@ -84,12 +81,12 @@ round_fair r ws mask cd =
 -- what every end of a clip keeps
 pub record Keeps (mask : List ℕ) (e : Ended) : Type 0 where
   pub falls : Falls mask e.mask
-  pub few_done : ones e.mask < 3 → (plate : Cd) × (e.answer ≡ clipped.Done plate)
+  pub few_done : ones e.mask < 3 → (plate : Cd) × (e.answer ≡ Ok (clipped.Done plate))
 
 after_keeps : (next : List ℕ → Cd → Ended) → ((m : List ℕ) (cd : Cd) → Keeps m (next m cd)) → (mask : List ℕ) (cd : Cd) (round : Round) → Fair mask round → Keeps mask (after next cd round)
 after_keeps next k mask cd (Last m) p = record { falls = p; few_done = λ h. (cd, refl) }
-after_keeps next k mask cd (Refitted m (fit.Plate better)) p = record { falls = then_falls mask m (next m better).mask p.0 (k m better).falls; few_done = (k m better).few_done }
-after_keeps next k mask cd (Refitted m (fit.Refused why)) p = record { falls = p.0; few_done = λ h. absurd (not-le_of_lt h p.1) }
+after_keeps next k mask cd (Refitted m (Ok better)) p = record { falls = then_falls mask m (next m better).mask p.0 (k m better).falls; few_done = (k m better).few_done }
+after_keeps next k mask cd (Refitted m (Err why)) p = record { falls = p.0; few_done = λ h. absurd (not-le_of_lt h p.1) }
 
 pub keeps : (k : ℕ) (r : Rows) (ws : List Float) (mask : List ℕ) (cd : Cd) → Keeps mask (clip_from k r ws mask cd)
 unfolding clip_from
@@ -100,12 +97,12 @@ keeps (suc k) r ws mask cd = after_keeps (clip_from k r ws) (keeps k r ws) mask 
 
 module _ (r : Rows) (mask : List ℕ) (cd : Cd) (ws : List Float) where
   -- a refusal by the tests, which is number 1, 2 or 3, keeps the mask
-  pub refused_keeps : (why : Refusal) → clip_tests r mask cd ws ≡ answer.Refused why → sigma_clip r mask cd ws ≡ ended (clipped.Refused why) mask
+  pub refused_keeps : (why : Refusal) → clip_tests r mask cd ws ≡ Err why → sigma_clip r mask cd ws ≡ ended (Err why) mask
   refused_keeps why e = rw e
 
-  ends : (a : Answer) → Falls mask (ended_after a mask (clip_from 10 r ws mask cd)).mask
-  ends answer.Done = (keeps 10 r ws mask cd).falls
-  ends (answer.Refused why) = λ i. inl refl
+  ends : (a : Result Unit Refusal) → Falls mask (ended_after a mask (clip_from 10 r ws mask cd)).mask
+  ends (Ok tt) = (keeps 10 r ws mask cd).falls
+  ends (Err why) = λ i. inl refl
 
   -- the mask only falls: each byte is as it was, or 0
   pub mask_falls : Falls mask (sigma_clip r mask cd ws).mask
@@ -116,5 +113,5 @@ module _ (r : Rows) (mask : List ℕ) (cd : Cd) (ws : List Float) where
   off_stays_off i h = ⊎_elim (λ e. ap (λ (b : ℕ). eqb b 1) e ∙ h) (λ z. ap (λ (b : ℕ). eqb b 1) z) (mask_falls i)
 
   -- a clip that passed its tests and ends with fewer than three rows on is done
-  pub few_is_done : clip_tests r mask cd ws ≡ answer.Done → ones (sigma_clip r mask cd ws).mask < 3 → (plate : Cd) × ((sigma_clip r mask cd ws).answer ≡ clipped.Done plate)
+  pub few_is_done : clip_tests r mask cd ws ≡ Ok tt → ones (sigma_clip r mask cd ws).mask < 3 → (plate : Cd) × ((sigma_clip r mask cd ws).answer ≡ Ok (clipped.Done plate))
   few_is_done e = rw e (keeps 10 r ws mask cd).few_done

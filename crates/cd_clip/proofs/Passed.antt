@@ -1,4 +1,5 @@
 -- What an input is like that passed the tests of the clip. Assumes nothing.
+use Rattle.std.specs.Prelude.{Ok}
 use mathlib.Core.Path.{◌≡◌}
 use mathlib.Core.Bool.{not, ◌&&◌, and-eq-true_iff}
 use mathlib.Core.List.{List}
@@ -8,7 +9,6 @@ use lib.ListN.{length}
 use lib.Ieee.{Float}
 use borrow.Author.Tests.{not-false, leb-true}
 use Rattle.answer.proofs.Passed.{passed, both}
-use Rattle.answer.specs.declared.Answer.TheVariants as answer
 use Rattle.rows.specs.Rows.{Rows, count, few_rows}
 use Rattle.cd_plate.specs.declared.Cd.{Cd}
 use Rattle.cd_plate.specs.Masked.{few_masked}
@@ -17,7 +17,7 @@ use Rattle.cd_fit.proofs.Passed.{weighed}
 use Rattle.cd_clip.specs.Clip.{Checked, clip_tests}
 
 -- no list of rows with weights that passed is longer than a hundred
-few : (r : Rows) (mask : List ℕ) (ws : List Float) → weighed_answer r mask ws ≡ answer.Done → count r ≤ 100
+few : (r : Rows) (mask : List ℕ) (ws : List Float) → weighed_answer r mask ws ≡ Ok tt → count r ≤ 100
 unfolding weighed_answer
 few r mask ws e =
     let f = passed (not (few_masked r mask && leb (length ws) 100)) _ _ e in
@@ -26,7 +26,7 @@ few r mask ws e =
     let pixels = (and-eq-true_iff (leb (length r.px) 100 && leb (length r.py) 100) _).0 lists.0 in
     leb-true _ _ ((and-eq-true_iff (leb (length r.px) 100) _).0 pixels.0).0
 
-pub checked : (r : Rows) (mask : List ℕ) (cd : Cd) (ws : List Float) → clip_tests r mask cd ws ≡ answer.Done → Checked r mask ws
+pub checked : (r : Rows) (mask : List ℕ) (cd : Cd) (ws : List Float) → clip_tests r mask cd ws ≡ Ok tt → Checked r mask ws
 unfolding clip_tests
 checked r mask cd ws e =
     let w = (both (weighed_answer r mask ws) _ e).0 in

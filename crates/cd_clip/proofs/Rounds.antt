@@ -1,4 +1,5 @@
 -- The ways out of a round, from what its parts gave. Assumes nothing.
+use Rattle.std.specs.Prelude.{Ok, Err}
 use mathlib.Core.Path.{◌≡◌, sym, ap, ◌∙◌}
 use mathlib.Core.Bool.{Bool, true, false, cond, not}
 use mathlib.Core.List.{List, ◌++◌}
@@ -16,7 +17,6 @@ use Rattle.cd_plate.specs.Plate.{inverse_of}
 use Rattle.cd_plate.specs.Errors.{errors_of}
 use Rattle.cd_plate.proofs.Filling.{filled_length}
 use Rattle.cd_mask.specs.Marks.{ones}
-use Rattle.cd_fit.specs.declared.CdFit.TheVariants as fit
 use Rattle.cd_round.specs.declared.Clip.{Clip}
 use Rattle.cd_round.specs.Round.{root_at, roots_of, squares_to, clip_of, any_rejected, mask_left}
 use Rattle.cd_clip.specs.declared.Clipped.TheVariants as clipped
@@ -52,7 +52,7 @@ parts_of {r} {ws} {mask} {cd} {v} {old} {errors} {roots} lm lo v-is roots-is cli
 
 module _ (r : Rows) (ws : List Float) (mask : List ℕ) (cd : Cd) (k : ℕ) where
   -- fewer than three rows are on
-  pub few_on : ones mask < 3 → clip_from (suc k) r ws mask cd ≡ ended (clipped.Done cd) mask
+  pub few_on : ones mask < 3 → clip_from (suc k) r ws mask cd ≡ ended (Ok (clipped.Done cd)) mask
   unfolding clip_from round_of
   few_on h = rw (lt-ltb (ones mask) 3 h)
 
@@ -64,22 +64,22 @@ module _ (r : Rows) (ws : List Float) (mask : List ℕ) (cd : Cd) (k : ℕ) wher
         rw (le-ltb (ones mask) 3 three, p.any_is, p.left_is, p.kept_is, p.clip_is, p.sum_is, p.on_are, p.errors_are, p.roots_are)
 
     -- none is rejected
-    pub none_rejected : any ≡ false → clip_from (suc k) r ws mask cd ≡ ended (clipped.Done cd) kept
+    pub none_rejected : any ≡ false → clip_from (suc k) r ws mask cd ≡ ended (Ok (clipped.Done cd)) kept
     none_rejected a = opened ∙ rw a
 
     -- fewer than three are left
-    pub few_left : any ≡ true → left < 3 → clip_from (suc k) r ws mask cd ≡ ended (clipped.Done cd) kept
+    pub few_left : any ≡ true → left < 3 → clip_from (suc k) r ws mask cd ≡ ended (Ok (clipped.Done cd)) kept
     few_left a l = opened ∙ rw (a, lt-ltb left 3 l)
 
     refitted : any ≡ true → 3 ≤ left → clip_from (suc k) r ws mask cd ≡ after (clip_from k r ws) cd (Refitted kept (refit_of r ws kept))
     refitted a l = opened ∙ rw (a, le-ltb left 3 l)
 
     -- the rows that are left have a plate
-    pub goes_on : any ≡ true → 3 ≤ left → (next : Cd) → refit_of r ws kept ≡ fit.Plate next → clip_from (suc k) r ws mask cd ≡ clip_from k r ws kept next
+    pub goes_on : any ≡ true → 3 ≤ left → (next : Cd) → refit_of r ws kept ≡ Ok next → clip_from (suc k) r ws mask cd ≡ clip_from k r ws kept next
     goes_on a l next e = refitted a l ∙ rw e
 
     -- or they have none
-    pub stopped : any ≡ true → 3 ≤ left → (why : Refusal) → refit_of r ws kept ≡ fit.Refused why → clip_from (suc k) r ws mask cd ≡ ended (clipped.Stopped cd) kept
+    pub stopped : any ≡ true → 3 ≤ left → (why : Refusal) → refit_of r ws kept ≡ Err why → clip_from (suc k) r ws mask cd ≡ ended (Ok (clipped.Stopped cd)) kept
     stopped a l why e = refitted a l ∙ rw e
 
 -- the front of a list that starts with the roots of n weights

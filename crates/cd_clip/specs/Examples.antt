@@ -1,5 +1,5 @@
 -- Worked examples, each by computation.
-use Rattle.std.specs.Prelude.{◌≡◌, refl, [], ◌∷◌, replicate, Float}
+use Rattle.std.specs.Prelude.{◌≡◌, refl, [], ◌∷◌, replicate, Float, Ok, Err}
 use Rattle.std.specs.Float.{nan, binary64}
 use Rattle.std.specs.Float.Ieee.{of_bits, of_int, add, sub, mul, div, neg, lt, le, eq}
 use Rattle.floats.specs.Magnitude.{magnitude_of}
@@ -38,17 +38,17 @@ same = shifted nothing
 abbrev eighths : Rows
 eighths = rows (eighth ∷ eighth ∷ eighth ∷ []) (nothing ∷ nothing ∷ nothing ∷ []) (nothing ∷ nothing ∷ nothing ∷ []) (nothing ∷ nothing ∷ nothing ∷ [])
 
-p13 : sigma_clip eighths (1 ∷ 1 ∷ 1 ∷ []) same (least ∷ least ∷ least ∷ []) ≡ ended (clipped.Done same) (0 ∷ 0 ∷ 0 ∷ [])
+p13 : sigma_clip eighths (1 ∷ 1 ∷ 1 ∷ []) same (least ∷ least ∷ least ∷ []) ≡ ended (Ok (clipped.Done same)) (0 ∷ 0 ∷ 0 ∷ [])
 unfolding clip_tests weighed_answer position_rows every is_cd clip_from round_of filled ones squares_to clip_of any_rejected determinant_of inverse_of square_of root_of of_bits of_int add sub mul div neg lt le eq
 p13 = refl
 
 -- rows of equal errors and weights are all within three times their rms: the first round rejects nothing
-none_rejected : sigma_clip eighths (1 ∷ 1 ∷ 1 ∷ []) same (unit ∷ unit ∷ unit ∷ []) ≡ ended (clipped.Done same) (1 ∷ 1 ∷ 1 ∷ [])
+none_rejected : sigma_clip eighths (1 ∷ 1 ∷ 1 ∷ []) same (unit ∷ unit ∷ unit ∷ []) ≡ ended (Ok (clipped.Done same)) (1 ∷ 1 ∷ 1 ∷ [])
 unfolding clip_tests weighed_answer position_rows every is_cd clip_from round_of filled ones squares_to clip_of any_rejected determinant_of inverse_of square_of root_of of_bits of_int add sub mul div neg lt le eq
 none_rejected = refl
 
 -- with two rows on nothing is tested
-two_on : sigma_clip eighths (1 ∷ 0 ∷ 1 ∷ []) same (least ∷ least ∷ least ∷ []) ≡ ended (clipped.Done same) (1 ∷ 0 ∷ 1 ∷ [])
+two_on : sigma_clip eighths (1 ∷ 0 ∷ 1 ∷ []) same (least ∷ least ∷ least ∷ []) ≡ ended (Ok (clipped.Done same)) (1 ∷ 0 ∷ 1 ∷ [])
 unfolding clip_tests weighed_answer position_rows every is_cd clip_from round_of ones of_bits neg lt le eq
 two_on = refl
 
@@ -58,24 +58,24 @@ corners =
     rows (nothing ∷ unit ∷ nothing ∷ eighth ∷ []) (nothing ∷ nothing ∷ unit ∷ nothing ∷ []) (nothing ∷ unit ∷ nothing ∷ nothing ∷ []) (nothing ∷ nothing ∷ unit ∷ nothing ∷ [])
 
 -- the first round rejects the last row, and the corners are fitted anew, which the sign of the shift shows; the second rejects nothing
-fitted_anew : sigma_clip corners (1 ∷ 1 ∷ 1 ∷ 1 ∷ []) (shifted (neg nothing)) (unit ∷ unit ∷ unit ∷ least ∷ []) ≡ ended (clipped.Done same) (1 ∷ 1 ∷ 1 ∷ 0 ∷ [])
+fitted_anew : sigma_clip corners (1 ∷ 1 ∷ 1 ∷ 1 ∷ []) (shifted (neg nothing)) (unit ∷ unit ∷ unit ∷ least ∷ []) ≡ ended (Ok (clipped.Done same)) (1 ∷ 1 ∷ 1 ∷ 0 ∷ [])
 unfolding clip_tests weighed_answer position_rows every is_cd clip_from round_of filled ones squares_to clip_of any_rejected fit_of plate_fit sums_to pivot_row eliminate_from row_less unknowns_to magnitude_of determinant_of inverse_of square_of root_of of_bits of_int add sub mul div neg lt le eq
 fitted_anew = refl
 
 -- number 8: corners of the least weight cannot be fitted; the rejection is kept, and the plate handed back
-stopped : sigma_clip corners (1 ∷ 1 ∷ 1 ∷ 1 ∷ []) (shifted (neg nothing)) (least ∷ least ∷ least ∷ least ∷ []) ≡ ended (clipped.Stopped (shifted (neg nothing))) (1 ∷ 1 ∷ 1 ∷ 0 ∷ [])
+stopped : sigma_clip corners (1 ∷ 1 ∷ 1 ∷ 1 ∷ []) (shifted (neg nothing)) (least ∷ least ∷ least ∷ least ∷ []) ≡ ended (Ok (clipped.Stopped (shifted (neg nothing)))) (1 ∷ 1 ∷ 1 ∷ 0 ∷ [])
 unfolding clip_tests weighed_answer position_rows every is_cd clip_from round_of filled ones squares_to clip_of any_rejected fit_of plate_fit sums_to pivot_row eliminate_from row_less unknowns_to magnitude_of determinant_of inverse_of square_of root_of of_bits of_int add sub mul div neg lt le eq
 stopped = refl
 
 -- the refusals in their order, which keep the mask
-too_many : sigma_clip eighths (2 ∷ []) (shifted nan) (replicate 101 nan) ≡ ended (clipped.Refused Count) (2 ∷ [])
+too_many : sigma_clip eighths (2 ∷ []) (shifted nan) (replicate 101 nan) ≡ ended (Err Count) (2 ∷ [])
 unfolding clip_tests weighed_answer
 too_many = refl
 
-unlike_lengths : sigma_clip eighths (2 ∷ []) (shifted nan) [] ≡ ended (clipped.Refused Lengths) (2 ∷ [])
+unlike_lengths : sigma_clip eighths (2 ∷ []) (shifted nan) [] ≡ ended (Err Lengths) (2 ∷ [])
 unfolding clip_tests weighed_answer
 unlike_lengths = refl
 
-no_plate : sigma_clip eighths (1 ∷ 1 ∷ 1 ∷ []) (shifted nan) (unit ∷ unit ∷ unit ∷ []) ≡ ended (clipped.Refused Value) (1 ∷ 1 ∷ 1 ∷ [])
+no_plate : sigma_clip eighths (1 ∷ 1 ∷ 1 ∷ []) (shifted nan) (unit ∷ unit ∷ unit ∷ []) ≡ ended (Err Value) (1 ∷ 1 ∷ 1 ∷ [])
 unfolding clip_tests weighed_answer position_rows every is_cd of_bits neg lt le eq
 no_plate = refl

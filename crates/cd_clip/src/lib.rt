@@ -6,38 +6,41 @@ ghost use Rattle.rows.specs.Rows.{rows};
 ghost use Rattle.cd_round.specs.Round.{roots_of};
 ghost use Rattle.cd_clip.specs.Clip.{Checked, refit_of, ended, clip_from, clip_tests, sigma_clip, clip_number};
 
-use answer::{Answer, Refusal};
-use cd_fit::CdFit;
+use answer::Refusal;
 use cd_plate::Cd;
 use cd_round::Clip;
 
 // The most rows.
 const MOST_ROWS: usize = 100;
 
-// How a clip ends: done, or stopped by a fit that is refused with 8, each with the last plate that is
-// good; or refused.
+// How a clip that is not refused ends: done, or stopped by a fit that is refused with 8, each with the
+// last plate that is good.
 #[derive(Clone, Copy)]
 pub enum Clipped {
     Done(Cd),
     Stopped(Cd),
-    Refused(Refusal),
 }
 
-impl Clipped {
-    // The number of the answer: 0 is done.
-    pub fn number(self) -> u32
-        ensures { result ≡ clip_number self }
-    {
-        match self {
-            Clipped::Done(_) => 0,
-            Clipped::Stopped(_) => Refusal::Degenerate.number(),
-            Clipped::Refused(why) => why.number(),
-        }
+// The number of an answer: 0 is done.
+pub fn number(answer: Result<Clipped, Refusal>) -> u32
+    ensures { result ≡ clip_number answer }
+{
+    match answer {
+        Ok(Clipped::Done(_)) => 0,
+        Ok(Clipped::Stopped(_)) => Refusal::Degenerate.number(),
+        Err(why) => why.number(),
     }
 }
 
 // The plate that fits the rows that are on, each by its weight.
-fn refit(px: &[f64], py: &[f64], xi: &[f64], eta: &[f64], mask: &[u8], weights: &[f64]) -> CdFit
+fn refit(
+    px: &[f64],
+    py: &[f64],
+    xi: &[f64],
+    eta: &[f64],
+    mask: &[u8],
+    weights: &[f64],
+) -> Result<Cd, Refusal>
     requires { Checked (rows px.now py.now xi.now eta.now) mask.now weights.now }
     ensures { result ≡ refit_of (rows px.now py.now xi.now eta.now) weights.now mask.now }
 {
@@ -57,7 +60,7 @@ fn clip_rounds(
     weights: &[f64],
     roots: &[f64],
     errors: &mut [f64],
-) -> Clipped
+) -> Result<Clipped, Refusal>
     requires fact_1 { Checked (rows px.now py.now xi.now eta.now) mask.old weights.now }
     requires fact_2 { roots.now ≡ roots_of weights.now }
     requires fact_3 { length errors.old ≡ length px.now }
@@ -97,12 +100,12 @@ fn clip_rounds(
         if left < Clip::LEAST_ROWS {
             break 'rounds;
         }
-        let CdFit::Plate(next) = refit(px, py, xi, eta, mask, weights) else {
-            return Clipped::Stopped(cd);
+        let Ok(next) = refit(px, py, xi, eta, mask, weights) else {
+            return Ok(Clipped::Stopped(cd));
         };
         cd = next;
     }
-    Clipped::Done(cd)
+    Ok(Clipped::Done(cd))
 }
 
 // The clip of rows that passed their tests. The roots of the weights are taken once.
@@ -114,7 +117,7 @@ fn clip_rows(
     mask: &mut [u8],
     cd: Cd,
     weights: &[f64],
-) -> Clipped
+) -> Result<Clipped, Refusal>
     requires { Checked (rows px.now py.now xi.now eta.now) mask.old weights.now }
     ensures { ended result mask.new ≡ clip_from 10
         (rows px.now py.now xi.now eta.now) weights.now mask.old cd }
@@ -137,6 +140,7 @@ fn clip_rows(
 }
 
 // The tests of the input, in their order; a plate that is not finite is refused with 3, as a row is.
+#[tactic(auto, unfolding(crate::specs::Clip::clip_tests))]
 fn check_clip(
     px: &[f64],
     py: &[f64],
@@ -145,18 +149,14 @@ fn check_clip(
     mask: &[u8],
     cd: Cd,
     weights: &[f64],
-) -> Answer
+) -> Result<(), Refusal>
     ensures { result ≡ clip_tests (rows px.now py.now xi.now eta.now) mask.now cd weights.now }
 {
-    match cd_fit::check_weighed(px, py, xi, eta, mask, weights) {
-        Answer::Refused(why) => Answer::Refused(why),
-        Answer::Done => {
-            if cd.is_finite() {
-                return Answer::Done;
-            }
-            Answer::Refused(Refusal::Value)
-        }
+    cd_fit::check_weighed(px, py, xi, eta, mask, weights)?;
+    if cd.is_finite() {
+        return Ok(());
     }
+    Err(Refusal::Value)
 }
 
 // The weighted clip of rows under a plate: the mask keeps the rows that are left, and the answer
@@ -169,14 +169,12 @@ pub fn sigma_clip_loop_weighted(
     mask: &mut [u8],
     cd: Cd,
     weights: &[f64],
-) -> Clipped
+) -> Result<Clipped, Refusal>
     ensures answer { result ≡ (sigma_clip
         (rows px.now py.now xi.now eta.now) mask.old cd weights.now).answer }
     ensures mask { mask.new ≡ (sigma_clip
         (rows px.now py.now xi.now eta.now) mask.old cd weights.now).mask }
 {
-    match check_clip(px, py, xi, eta, mask, cd, weights) {
-        Answer::Refused(why) => Clipped::Refused(why),
-        Answer::Done => clip_rows(px, py, xi, eta, mask, cd, weights),
-    }
+    check_clip(px, py, xi, eta, mask, cd, weights)?;
+    clip_rows(px, py, xi, eta, mask, cd, weights)
 }

@@ -1,11 +1,10 @@
 -- Worked examples, each by computation.
-use Rattle.std.specs.Prelude.{◌≡◌, refl, [], ◌∷◌, replicate, Float}
+use Rattle.std.specs.Prelude.{◌≡◌, refl, [], ◌∷◌, replicate, Float, Ok, Err}
 use Rattle.std.specs.Float.{nan, binary64}
 use Rattle.std.specs.Float.Ieee.{of_bits, add, sub, mul, div, neg, lt, le, eq}
 use Rattle.root.specs.Root.{root_of}
 use Rattle.domain.specs.Domain.{every}
 use Rattle.answer.specs.declared.Refusal.TheVariants.{Count, Lengths, Value, Room}
-use Rattle.answer.specs.declared.Answer.TheVariants as answer
 use Rattle.rows.specs.Rows.{Rows, rows, position_rows}
 use Rattle.cd_plate.specs.declared.Cd.{Cd}
 use Rattle.cd_plate.specs.Plate.{nothing, determinant_of, is_cd, inverse_of, square_of}
@@ -45,23 +44,23 @@ no_test : pixel_errors two (1 ∷ 0 ∷ []) flat ≡ nan ∷ nothing ∷ []
 unfolding filled square_of inverse_of determinant_of root_of of_bits add sub mul div neg
 no_test = refl
 
-done : errors_answer two (1 ∷ 0 ∷ []) unit 2 ≡ answer.Done
+done : errors_answer two (1 ∷ 0 ∷ []) unit 2 ≡ Ok tt
 unfolding errors_answer is_cd position_rows every of_bits neg lt le eq
 done = refl
 
 -- the refusals in their order
-too_many : errors_answer two (replicate 101 2) unit 0 ≡ answer.Refused Count
+too_many : errors_answer two (replicate 101 2) unit 0 ≡ Err Count
 unfolding errors_answer
 too_many = refl
 
-unlike_lengths : errors_answer two (2 ∷ []) unit 0 ≡ answer.Refused Lengths
+unlike_lengths : errors_answer two (2 ∷ []) unit 0 ≡ Err Lengths
 unfolding errors_answer
 unlike_lengths = refl
 
-no_mask : errors_answer two (1 ∷ 2 ∷ []) unit 0 ≡ answer.Refused Value
+no_mask : errors_answer two (1 ∷ 2 ∷ []) unit 0 ≡ Err Value
 unfolding errors_answer is_cd position_rows every of_bits neg lt le eq
 no_mask = refl
 
-no_room : errors_answer two (1 ∷ 0 ∷ []) unit 1 ≡ answer.Refused Room
+no_room : errors_answer two (1 ∷ 0 ∷ []) unit 1 ≡ Err Room
 unfolding errors_answer is_cd position_rows every of_bits neg lt le eq
 no_room = refl

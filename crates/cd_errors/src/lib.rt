@@ -6,7 +6,7 @@ ghost use Rattle.answer.specs.Answers.{lent_after};
 ghost use Rattle.rows.specs.Rows.{rows};
 ghost use Rattle.cd_errors.specs.Errors.{errors_answer, pixel_errors};
 
-use answer::{Answer, Refusal};
+use answer::Refusal;
 use cd_plate::Cd;
 
 // The tests of the input, in their order, and the room for the errors.
@@ -18,17 +18,17 @@ fn check_errors(
     mask: &[u8],
     cd: Cd,
     places: usize,
-) -> Answer
+) -> Result<(), Refusal>
     ensures { result ≡ errors_answer (rows px.now py.now xi.now eta.now) mask.now cd places }
 {
     if !cd_plate::few_masked(px, py, xi, eta, mask) {
-        return Answer::Refused(Refusal::Count);
+        return Err(Refusal::Count);
     }
     if !cd_plate::even_masked(px, py, xi, eta, mask) {
-        return Answer::Refused(Refusal::Lengths);
+        return Err(Refusal::Lengths);
     }
     if !(cd_plate::good_masked(px, py, xi, eta, mask) & cd.is_finite()) {
-        return Answer::Refused(Refusal::Value);
+        return Err(Refusal::Value);
     }
     answer::room_for(px.len(), places)
 }
@@ -42,7 +42,7 @@ pub fn compute_pixel_errors(
     mask: &[u8],
     cd: Cd,
     errors: &mut [f64],
-) -> Answer
+) -> Result<(), Refusal>
     ensures answer { result ≡ errors_answer
         (rows px.now py.now xi.now eta.now) mask.now cd (length errors.old) }
     ensures errors { errors.new ≡ lent_after
@@ -50,11 +50,7 @@ pub fn compute_pixel_errors(
         (pixel_errors (rows px.now py.now xi.now eta.now) mask.now cd)
         errors.old }
 {
-    match check_errors(px, py, xi, eta, mask, cd, errors.len()) {
-        Answer::Refused(why) => Answer::Refused(why),
-        Answer::Done => {
-            cd_plate::put_errors(px, py, xi, eta, mask, cd.inverse(), errors);
-            Answer::Done
-        }
-    }
+    check_errors(px, py, xi, eta, mask, cd, errors.len())?;
+    cd_plate::put_errors(px, py, xi, eta, mask, cd.inverse(), errors);
+    Ok(())
 }

@@ -1,4 +1,5 @@
 -- One elimination of the matrix of both axes is the elimination of each. Assumes nothing.
+use Rattle.std.specs.Prelude.{Err, Result, Ok}
 use mathlib.Core.Path.{◌≡◌, refl, subst, ◌∙◌}
 use mathlib.Core.Bool.{cond}
 use mathlib.Core.List.{List, [], ◌∷◌}
@@ -11,14 +12,12 @@ use Rattle.answer.specs.declared.Refusal.TheVariants as refusal
 use Rattle.elimination_rows.specs.Matrix.{Matrix, cells}
 use Rattle.elimination.specs.Elimination.{eliminated, unknowns, Solved, solution}
 use Rattle.elimination.specs.Agrees.{Agrees}
-use Rattle.elimination.specs.declared.Eliminated.{Eliminated}
-use Rattle.elimination.specs.declared.Eliminated.TheVariants as ended
+use Rattle.elimination.specs.declared.NoPivot.{NoPivot}
 use Rattle.elimination.proofs.Alike.{Alike}
 use Rattle.elimination.proofs.Solved.{solved, singular, solution_alike}
 use Rattle.cd_sums.specs.declared.Sums.{Sums}
 use Rattle.cd_sums.specs.Sums.{Nine}
 use Rattle.cd_sums.specs.Both.{xi_part, eta_part, Both}
-use Rattle.cd_fit.specs.declared.CdFit.TheVariants as fit
 use Rattle.cd_fit.specs.Fit.{system_of, axis_of, plate_in, plate_fit, both_axes, fit_of}
 
 -- the matrix of both axes: three rows of five, the right sides of xi and eta last
@@ -81,23 +80,23 @@ same_axes : {p q x y : Solved} → p ≡ x → q ≡ y → both_axes p q ≡ bot
 same_axes e d = rw (e, d)
 
 -- what an answer that is told says of the elimination
-told : (s : Sums) (l : List Float) (r q : Eliminated) → r ≡ q → Agrees (eliminated (cells (matrix_of s) 5) 3) r l 3 5 → Agrees (eliminated (cells (matrix_of s) 5) 3) q l 3 5
-told s l r q h a = subst (λ (x : Eliminated). Agrees (eliminated (cells (matrix_of s) 5) 3) x l 3 5) h a
+told : (s : Sums) (l : List Float) (r q : Result Unit NoPivot) → r ≡ q → Agrees (eliminated (cells (matrix_of s) 5) 3) r l 3 5 → Agrees (eliminated (cells (matrix_of s) 5) 3) q l 3 5
+told s l r q h a = subst (λ (x : Result Unit NoPivot). Agrees (eliminated (cells (matrix_of s) 5) 3) x l 3 5) h a
 
 -- where the elimination is done, the fit has the unknowns of both right sides
-pub fit_solved : (s : Sums) (l : List Float) (r : Eliminated) → r ≡ ended.Reduced → Agrees (eliminated (cells (matrix_of s) 5) 3) r l 3 5
+pub fit_solved : (s : Sums) (l : List Float) (r : Result Unit NoPivot) → r ≡ Ok tt → Agrees (eliminated (cells (matrix_of s) 5) 3) r l 3 5
     → fit_of (xi_part s) (eta_part s) ≡ plate_fit (plate_in (unknowns (cells l 5) 3 3) (unknowns (cells l 5) 3 4))
 unfolding fit_of
 fit_solved s l r h a =
-    let e = told s l r ended.Reduced h a in
+    let e = told s l r (Ok tt) h a in
     same_axes (axis_xi s ∙ solved (cells (matrix_of s) 5) l 3 5 3 (omega arith) (omega arith) e) (axis_eta s ∙ solved (cells (matrix_of s) 5) l 3 5 4 (omega arith) (omega arith) e)
 
 -- where it stops, there is none
-pub fit_stopped : (s : Sums) (l : List Float) (col : ℕ) (r : Eliminated) → r ≡ ended.Stopped col → Agrees (eliminated (cells (matrix_of s) 5) 3) r l 3 5
-    → fit_of (xi_part s) (eta_part s) ≡ fit.Refused refusal.Degenerate
+pub fit_stopped : (s : Sums) (l : List Float) (col : ℕ) (r : Result Unit NoPivot) → r ≡ Err (record { col = col }) → Agrees (eliminated (cells (matrix_of s) 5) 3) r l 3 5
+    → fit_of (xi_part s) (eta_part s) ≡ Err refusal.Degenerate
 unfolding fit_of
 fit_stopped s l col r h a =
-    let e = told s l r (ended.Stopped col) h a in
+    let e = told s l r (Err (record { col = col })) h a in
     same_axes (axis_xi s ∙ singular (cells (matrix_of s) 5) l 3 5 3 col e) (axis_eta s ∙ singular (cells (matrix_of s) 5) l 3 5 4 col e)
 
 pub same_fit : {p q x y : Nine} → p ≡ x → q ≡ y → fit_of p q ≡ fit_of x y

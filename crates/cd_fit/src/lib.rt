@@ -6,34 +6,14 @@ ghost use Rattle.rows.specs.Rows.{rows};
 ghost use Rattle.elimination_rows.specs.Matrix.{cells};
 ghost use Rattle.elimination.specs.Elimination.{unknowns};
 ghost use Rattle.cd_sums.specs.Both.{xi_part, eta_part};
-ghost use Rattle.cd_fit.specs.Fit.{plate_in, plate_fit, fit_of, fit_number, masked_answer, weighed_answer, fit_answer, weighted_answer};
+ghost use Rattle.cd_fit.specs.Fit.{plate_in, plate_fit, fit_of, masked_answer, weighed_answer, fit_answer, weighted_answer};
 
-use answer::{Answer, Refusal};
+use answer::Refusal;
 use cd_plate::Cd;
 use cd_sums::Sums;
-use elimination::Eliminated;
 
 // The longest list of weights.
 const MOST_ROWS: usize = 100;
-
-// What a fit comes to.
-#[derive(Clone, Copy)]
-pub enum CdFit {
-    Plate(Cd),
-    Refused(Refusal),
-}
-
-impl CdFit {
-    // The number of the answer: 0 is done.
-    pub fn number(self) -> u32
-        ensures { result ≡ fit_number self }
-    {
-        match self {
-            CdFit::Plate(_) => 0,
-            CdFit::Refused(why) => why.number(),
-        }
-    }
-}
 
 // The plate of the unknowns of both axes.
 fn plate_in(x: &[f64; 3], y: &[f64; 3]) -> Cd
@@ -43,17 +23,17 @@ fn plate_in(x: &[f64; 3], y: &[f64; 3]) -> Cd
 }
 
 // A plate whose determinant's magnitude is above the least, or refusal 8; NaN is not above.
-fn plate_fit(cd: Cd) -> CdFit
+fn plate_fit(cd: Cd) -> Result<Cd, Refusal>
     ensures { result ≡ plate_fit cd }
 {
     if floats::magnitude(cd.determinant()) > Cd::LEAST_DETERMINANT {
-        return CdFit::Plate(cd);
+        return Ok(cd);
     }
-    CdFit::Refused(Refusal::Degenerate)
+    Err(Refusal::Degenerate)
 }
 
 // The plate of a reduced matrix of three rows of five, with the right sides of xi and eta last.
-fn plate_of(m: &[f64]) -> CdFit
+fn plate_of(m: &[f64]) -> Result<Cd, Refusal>
     requires { length m.now ≡ 15 }
     ensures { result ≡ plate_fit (plate_in (unknowns (cells m.now 5) 3 3) (unknowns (cells m.now 5) 3 4)) }
 {
@@ -65,7 +45,7 @@ fn plate_of(m: &[f64]) -> CdFit
 }
 
 // The plate of the sums: one elimination for both axes, which share the matrix.
-pub fn solve_both(s: Sums) -> CdFit
+pub fn solve_both(s: Sums) -> Result<Cd, Refusal>
     ensures { result ≡ fit_of (xi_part s) (eta_part s) }
 {
     let mut m = [
@@ -73,25 +53,25 @@ pub fn solve_both(s: Sums) -> CdFit
     ];
     let mut held = [0.0; 5];
     match elimination::eliminate_in(&mut m, 3, 5, &mut held) {
-        Eliminated::Stopped(_) => CdFit::Refused(Refusal::Degenerate),
-        Eliminated::Reduced => plate_of(&m),
+        Err(_) => Err(Refusal::Degenerate),
+        Ok(()) => plate_of(&m),
     }
 }
 
 // The tests of rows with a mask, in their order.
-fn check_masked(px: &[f64], py: &[f64], xi: &[f64], eta: &[f64], mask: &[u8]) -> Answer
+fn check_masked(px: &[f64], py: &[f64], xi: &[f64], eta: &[f64], mask: &[u8]) -> Result<(), Refusal>
     ensures { result ≡ masked_answer (rows px.now py.now xi.now eta.now) mask.now }
 {
     if !cd_plate::few_masked(px, py, xi, eta, mask) {
-        return Answer::Refused(Refusal::Count);
+        return Err(Refusal::Count);
     }
     if !cd_plate::even_masked(px, py, xi, eta, mask) {
-        return Answer::Refused(Refusal::Lengths);
+        return Err(Refusal::Lengths);
     }
     if !cd_plate::good_masked(px, py, xi, eta, mask) {
-        return Answer::Refused(Refusal::Value);
+        return Err(Refusal::Value);
     }
-    Answer::Done
+    Ok(())
 }
 
 // The tests of rows with a mask and weights, in their order.
@@ -102,29 +82,33 @@ pub fn check_weighed(
     eta: &[f64],
     mask: &[u8],
     weights: &[f64],
-) -> Answer
+) -> Result<(), Refusal>
     ensures { result ≡ weighed_answer (rows px.now py.now xi.now eta.now) mask.now weights.now }
 {
     if !(cd_plate::few_masked(px, py, xi, eta, mask) & (weights.len() <= MOST_ROWS)) {
-        return Answer::Refused(Refusal::Count);
+        return Err(Refusal::Count);
     }
     if !(cd_plate::even_masked(px, py, xi, eta, mask) & (weights.len() == px.len())) {
-        return Answer::Refused(Refusal::Lengths);
+        return Err(Refusal::Lengths);
     }
     if !(cd_plate::good_masked(px, py, xi, eta, mask) & domain::all_weights(weights)) {
-        return Answer::Refused(Refusal::Value);
+        return Err(Refusal::Value);
     }
-    Answer::Done
+    Ok(())
 }
 
 // The plate that fits the rows that are on.
-pub fn fit_cd_matrix_6(px: &[f64], py: &[f64], xi: &[f64], eta: &[f64], mask: &[u8]) -> CdFit
+pub fn fit_cd_matrix_6(
+    px: &[f64],
+    py: &[f64],
+    xi: &[f64],
+    eta: &[f64],
+    mask: &[u8],
+) -> Result<Cd, Refusal>
     ensures { result ≡ fit_answer (rows px.now py.now xi.now eta.now) mask.now }
 {
-    match check_masked(px, py, xi, eta, mask) {
-        Answer::Refused(why) => CdFit::Refused(why),
-        Answer::Done => solve_both(cd_sums::sum_rows(px, py, xi, eta, mask)),
-    }
+    check_masked(px, py, xi, eta, mask)?;
+    solve_both(cd_sums::sum_rows(px, py, xi, eta, mask))
 }
 
 // The plate that fits the rows that are on, each by its weight.
@@ -135,11 +119,9 @@ pub fn fit_cd_weighted(
     eta: &[f64],
     mask: &[u8],
     weights: &[f64],
-) -> CdFit
+) -> Result<Cd, Refusal>
     ensures { result ≡ weighted_answer (rows px.now py.now xi.now eta.now) mask.now weights.now }
 {
-    match check_weighed(px, py, xi, eta, mask, weights) {
-        Answer::Refused(why) => CdFit::Refused(why),
-        Answer::Done => solve_both(cd_sums::sum_weighted(px, py, xi, eta, mask, weights)),
-    }
+    check_weighed(px, py, xi, eta, mask, weights)?;
+    solve_both(cd_sums::sum_weighted(px, py, xi, eta, mask, weights))
 }

@@ -17,8 +17,8 @@ pub fn count_on(mask: &[u8]) -> usize
     ensures { result ≡ ones mask.now }
 {
     let mut count = 0usize;
-    for i in 0..mask.len() {
-        count += is_on(mask[i]);
+    for b in mask {
+        count += is_on(*b);
     }
     count
 }
@@ -28,7 +28,5 @@ pub fn fill_ones(mask: &mut [u8], n: usize)
     requires { n ≤ length mask.old }
     ensures { mask.new ≡ written (replicate n 1) mask.old }
 {
-    for i in 0..n {
-        mask[i] = 1;
-    }
+    mask[..n].fill(1);
 }

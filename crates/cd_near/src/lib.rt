@@ -73,6 +73,7 @@ fn last_within(limit: f64, low: u64, high: u64) -> f64
 {
     let mut within = low;
     let mut past = high;
+    // a `while`, since it halves what lies between the two
     while past - within > 1 {
         let middle = within + (past - within) / 2;
         if is_within(limit, middle) {

@@ -1,10 +1,9 @@
 -- The normal equations as a call: its system, its tests and its answer. Definitions only.
-use Rattle.std.specs.Prelude.{ℕ, ◌*◌, cond, ◌&&◌, List, [], ltb, eqb, length, get_or, Float}
+use Rattle.answer.specs.declared.Refusal.{Refusal}
+use Rattle.std.specs.Prelude.{ℕ, ◌*◌, cond, ◌&&◌, List, [], ltb, eqb, length, get_or, Float, Result, Ok, Err}
 use Rattle.std.specs.Float.{nan}
 use Rattle.answer.specs.Answers.{first, room_for}
 use Rattle.answer.specs.declared.Refusal.TheVariants.{Count, Lengths, Degenerate}
-use Rattle.answer.specs.declared.Answer.{Answer}
-use Rattle.answer.specs.declared.Answer.TheVariants.{Done, Refused}
 use Rattle.elimination_rows.specs.Matrix.{Matrix, cells}
 use Rattle.elimination.specs.Elimination.{Solved, Unknowns, Singular, solution}
 
@@ -17,9 +16,9 @@ unfoldable pub normal_solved : List Float → List Float → ℕ → Solved
 normal_solved a b n = solution (system a b n) n n
 
 -- number 8 for a system that is singular
-abbrev pub solved_answer : Solved → Answer
-solved_answer (Unknowns xs) = Done
-solved_answer (Singular col) = Refused Degenerate
+abbrev pub solved_answer : Solved → Result Unit Refusal
+solved_answer (Unknowns xs) = Ok tt
+solved_answer (Singular col) = Err Degenerate
 
 -- the unknowns, where there are any
 abbrev pub unknowns_of : Solved → List Float
@@ -27,10 +26,10 @@ unknowns_of (Unknowns xs) = xs
 unknowns_of (Singular col) = []
 
 -- the tests before the solve, of the lengths of a, b and x: number 1 past 54 unknowns, 2 where a is not n by n or b not n, 7 for the room
-unfoldable pub tests_answer : ℕ → ℕ → ℕ → ℕ → Answer
+unfoldable pub tests_answer : ℕ → ℕ → ℕ → ℕ → Result Unit Refusal
 tests_answer a b n x =
-    cond (ltb 54 n) (Refused Count) (cond (eqb a (n * n) && eqb b n) (room_for n x) (Refused Lengths))
+    cond (ltb 54 n) (Err Count) (cond (eqb a (n * n) && eqb b n) (room_for n x) (Err Lengths))
 
 -- the answer of `solve_normal_equations`, into a list of so many places
-abbrev pub normal_answer : List Float → List Float → ℕ → ℕ → Answer
+abbrev pub normal_answer : List Float → List Float → ℕ → ℕ → Result Unit Refusal
 normal_answer a b n places = first (tests_answer (length a) (length b) n places) (solved_answer (normal_solved a b n))

@@ -6,8 +6,7 @@ ghost use Rattle.answer.specs.Answers.{lent_after};
 ghost use Rattle.elimination_rows.specs.Holds.{Holds};
 ghost use Rattle.cd_normal.specs.Normal.{system, normal_solved, solved_answer, unknowns_of, tests_answer, normal_answer};
 
-use answer::{Answer, Refusal};
-use elimination::Eliminated;
+use answer::Refusal;
 
 // The most unknowns.
 const MOST_UNKNOWNS: usize = 54;
@@ -45,7 +44,7 @@ fn put_system(a: &[f64], b: &[f64], n: usize, m: &mut [f64])
 }
 
 // The unknowns into the front of x, by way of a lent matrix.
-fn solve_in(a: &[f64], b: &[f64], n: usize, m: &mut [f64], x: &mut [f64]) -> Answer
+fn solve_in(a: &[f64], b: &[f64], n: usize, m: &mut [f64], x: &mut [f64]) -> Result<(), Refusal>
     requires a_len { length a.now ≡ n * n }
     requires b_len { length b.now ≡ n }
     requires n_bound { (n ≤ 54) × (n ≤ length x.old) }
@@ -56,55 +55,35 @@ fn solve_in(a: &[f64], b: &[f64], n: usize, m: &mut [f64], x: &mut [f64]) -> Ans
     let w = n + 1;
     put_system(a, b, n, m);
     match elimination::eliminate(m, n, w) {
-        Eliminated::Stopped(_) => Answer::Refused(Refusal::Degenerate),
-        Eliminated::Reduced => {
+        Err(_) => Err(Refusal::Degenerate),
+        Ok(()) => {
             elimination::unknowns(m, n, w, n, &mut x[..n]);
-            Answer::Done
+            Ok(())
         }
     }
 }
 
-// A small system.
-fn solve_few(a: &[f64], b: &[f64], n: usize, x: &mut [f64]) -> Answer
-    requires a_len { length a.now ≡ n * n }
-    requires b_len { length b.now ≡ n }
-    requires n_bound { (n ≤ 12) × (n ≤ length x.old) }
-    ensures { (result ≡ solved_answer (normal_solved a.now b.now n))
-        × (x.new ≡ lent_after result (unknowns_of (normal_solved a.now b.now n)) x.old) }
-{
-    let mut m = [0.0; 156];
-    let size = n * (n + 1);
-    solve_in(a, b, n, &mut m[..size], x)
-}
-
-// A middling system.
-fn solve_more(a: &[f64], b: &[f64], n: usize, x: &mut [f64]) -> Answer
-    requires a_len { length a.now ≡ n * n }
-    requires b_len { length b.now ≡ n }
-    requires n_bound { (n ≤ 20) × (n ≤ length x.old) }
-    ensures { (result ≡ solved_answer (normal_solved a.now b.now n))
-        × (x.new ≡ lent_after result (unknowns_of (normal_solved a.now b.now n)) x.old) }
-{
-    let mut m = [0.0; 420];
-    let size = n * (n + 1);
-    solve_in(a, b, n, &mut m[..size], x)
-}
-
-// A system of any size.
-fn solve_most(a: &[f64], b: &[f64], n: usize, x: &mut [f64]) -> Answer
+// The same with a matrix of its own, of so many numbers.
+fn solve_within<const NUMBERS: usize>(
+    a: &[f64],
+    b: &[f64],
+    n: usize,
+    x: &mut [f64],
+) -> Result<(), Refusal>
     requires a_len { length a.now ≡ n * n }
     requires b_len { length b.now ≡ n }
     requires n_bound { (n ≤ 54) × (n ≤ length x.old) }
+    requires matrix_fits { (n * (n + 1) ≤ NUMBERS) × (NUMBERS ≤ 2970) }
     ensures { (result ≡ solved_answer (normal_solved a.now b.now n))
         × (x.new ≡ lent_after result (unknowns_of (normal_solved a.now b.now n)) x.old) }
 {
-    let mut m = [0.0; 2970];
+    let mut m = [0.0; NUMBERS];
     let size = n * (n + 1);
     solve_in(a, b, n, &mut m[..size], x)
 }
 
 // The solve in the least matrix that will do.
-fn solve_sized(a: &[f64], b: &[f64], n: usize, x: &mut [f64]) -> Answer
+fn solve_sized(a: &[f64], b: &[f64], n: usize, x: &mut [f64]) -> Result<(), Refusal>
     requires a_len { length a.now ≡ n * n }
     requires b_len { length b.now ≡ n }
     requires n_bound { (n ≤ 54) × (n ≤ length x.old) }
@@ -112,35 +91,33 @@ fn solve_sized(a: &[f64], b: &[f64], n: usize, x: &mut [f64]) -> Answer
         × (x.new ≡ lent_after result (unknowns_of (normal_solved a.now b.now n)) x.old) }
 {
     if n <= FEW_UNKNOWNS {
-        return solve_few(a, b, n, x);
+        return solve_within::<156>(a, b, n, x);
     }
     if n <= MORE_UNKNOWNS {
-        return solve_more(a, b, n, x);
+        return solve_within::<420>(a, b, n, x);
     }
-    solve_most(a, b, n, x)
+    solve_within::<2970>(a, b, n, x)
 }
 
 // The tests before the solve, of the lengths of a, b and x.
-fn check_lengths(a: usize, b: usize, n: usize, x: usize) -> Answer
+fn check_lengths(a: usize, b: usize, n: usize, x: usize) -> Result<(), Refusal>
     ensures { result ≡ tests_answer a b n x }
 {
     if n > MOST_UNKNOWNS {
-        return Answer::Refused(Refusal::Count);
+        return Err(Refusal::Count);
     }
     if !((a == n * n) & (b == n)) {
-        return Answer::Refused(Refusal::Lengths);
+        return Err(Refusal::Lengths);
     }
     answer::room_for(n, x)
 }
 
 // The unknowns of n equations, a given row by row, written from the front of x; or a refusal, which
 // changes nothing.
-pub fn solve_normal_equations(a: &[f64], b: &[f64], n: usize, x: &mut [f64]) -> Answer
+pub fn solve_normal_equations(a: &[f64], b: &[f64], n: usize, x: &mut [f64]) -> Result<(), Refusal>
     ensures answer { result ≡ normal_answer a.now b.now n (length x.old) }
     ensures unknowns { x.new ≡ lent_after result (unknowns_of (normal_solved a.now b.now n)) x.old }
 {
-    match check_lengths(a.len(), b.len(), n, x.len()) {
-        Answer::Refused(why) => Answer::Refused(why),
-        Answer::Done => solve_sized(a, b, n, x),
-    }
+    check_lengths(a.len(), b.len(), n, x.len())?;
+    solve_sized(a, b, n, x)
 }

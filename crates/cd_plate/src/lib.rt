@@ -9,7 +9,7 @@ ghost use Rattle.cd_plate.specs.Masked.{few_masked, even_masked, good_masked};
 ghost use Rattle.cd_plate.specs.Errors.{errors_of};
 ghost use Rattle.cd_plate.specs.Six.{cd_in, cd_numbers};
 
-use answer::{Answer, Refusal};
+use answer::Refusal;
 use rows::Row;
 
 // The longest mask.
@@ -122,12 +122,12 @@ impl Inverse {
 }
 
 // Writes the six numbers of a CD into the front of a list that has the room.
-pub fn put_cd(out: &mut [f64], m: Cd) -> Answer
+pub fn put_cd(out: &mut [f64], m: Cd) -> Result<(), Refusal>
     ensures answer { result ≡ room_for 6 (length out.old) }
     ensures after { out.new ≡ lent_after (room_for 6 (length out.old)) (cd_numbers m) out.old }
 {
     if out.len() < 6 {
-        return Answer::Refused(Refusal::Room);
+        return Err(Refusal::Room);
     }
     out[0] = m.cd1_1;
     out[1] = m.cd1_2;
@@ -135,7 +135,7 @@ pub fn put_cd(out: &mut [f64], m: Cd) -> Answer
     out[3] = m.cd2_1;
     out[4] = m.cd2_2;
     out[5] = m.eta0;
-    Answer::Done
+    Ok(())
 }
 
 // Whether no list has more than 100 places.

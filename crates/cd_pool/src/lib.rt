@@ -1,23 +1,16 @@
 // The pool of the CD run: the places of the rows that have enough votes.
 #![tactic(auto)]
 
-ghost use Rattle.std.specs.Prelude.{◌≡◌, cond, ◌≤◌, max, length, take};
+ghost use Rattle.std.specs.Prelude.{◌≡◌, ◌≤◌, length, take};
 ghost use Rattle.cd_pool.specs.Pool.{greatest, is_taken, pool_of};
-
-// The larger of two votes.
-fn larger(a: u32, b: u32) -> u32
-    ensures { result ≡ max a b }
-{
-    if a < b { b } else { a }
-}
 
 // The greatest of the votes; 0 of none.
 fn greatest_of(votes: &[u32]) -> u32
     ensures { result ≡ greatest votes.now }
 {
     let mut best = 0u32;
-    for i in 0..votes.len() {
-        best = larger(best, votes[i]);
+    for vote in votes {
+        best = best.max(*vote);
     }
     best
 }
@@ -29,13 +22,6 @@ fn is_taken(vote: u32, least: u32, at: usize, rows: usize) -> bool
     (least <= vote) & (at < rows)
 }
 
-// How far the count moves on.
-fn one_if(taken: bool) -> usize
-    ensures { result ≡ cond taken 1 0 }
-{
-    if taken { 1 } else { 0 }
-}
-
 // The pool of the votes over so many rows, into the front of `places`; its length. Each place is stored,
 // and the next one goes over it unless it was taken, so that no store hangs on a test.
 pub fn pool_of(votes: &[u32], rows: usize, places: &mut [usize]) -> usize
@@ -45,9 +31,9 @@ pub fn pool_of(votes: &[u32], rows: usize, places: &mut [usize]) -> usize
 {
     let least = greatest_of(votes) / 3;
     let mut count = 0usize;
-    for i in 0..votes.len() {
+    for (i, vote) in votes.iter().enumerate() {
         places[count] = i;
-        count += one_if(is_taken(votes[i], least, i, rows));
+        count += is_taken(*vote, least, i, rows) as usize;
     }
     count
 }

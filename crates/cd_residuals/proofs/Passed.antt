@@ -1,4 +1,5 @@
 -- What an input is like that passed its tests, and lists that have the room. Assumes nothing.
+use Rattle.std.specs.Prelude.{Ok}
 use mathlib.Core.Path.{◌≡◌}
 use mathlib.Core.Bool.{Bool, true, false, cond, not, ◌||◌, and-eq-true_iff}
 use Prim.Native.Nat.{ℕ, ◌≤◌}
@@ -9,7 +10,6 @@ use lib.Ieee.{lt}
 use borrow.Author.Tests.{not-false, ltb-false, eqb-true}
 use Rattle.floats.specs.Magnitude.{magnitude_of}
 use Rattle.answer.proofs.Passed.{passed, neither}
-use Rattle.answer.specs.declared.Answer.TheVariants as answer
 use Rattle.rows.specs.Rows.{Rows, count, few_rows, even_rows}
 use Rattle.cd_plate.specs.Plate.{least_determinant, determinant_of}
 use Rattle.wcs.specs.declared.Wcs.{Wcs}
@@ -22,7 +22,7 @@ pub record Even (r : Rows) : Type 0 where
   pub xi_long : length r.xi ≡ count r
   pub eta_long : length r.eta ≡ count r
 
-pub checked : (r : Rows) (w : Wcs) → input_answer r w ≡ answer.Done → Even r
+pub checked : (r : Rows) (w : Wcs) → input_answer r w ≡ Ok tt → Even r
 unfolding input_answer
 checked r w e =
     let f = passed (not (few_rows r)) _ _ e in
@@ -37,7 +37,7 @@ pub record Room (need x y px : ℕ) : Type 0 where
   pub in_y : need ≤ y
   pub in_px : need ≤ px
 
-pub room : (need x y px : ℕ) → room_answer need x y px ≡ answer.Done → Room need x y px
+pub room : (need x y px : ℕ) → room_answer need x y px ≡ Ok tt → Room need x y px
 room need x y px e =
     let f = passed (ltb x need || ltb y need) _ _ e in
     let two = neither (ltb x need) (ltb y need) f.0 in

@@ -1,5 +1,5 @@
 -- Worked examples, each by computation.
-use Rattle.std.specs.Prelude.{◌≡◌, refl, [], ◌∷◌, Float}
+use Rattle.std.specs.Prelude.{◌≡◌, refl, [], ◌∷◌, Float, Ok, Err}
 use Rattle.std.specs.Float.{nan, binary64}
 use Rattle.std.specs.Float.Ieee.{of_bits, add, sub, mul, div, neg, lt, le, eq}
 use Rattle.floats.specs.Magnitude.{magnitude_of}
@@ -10,7 +10,6 @@ use Rattle.rows.specs.Rows.{Rows, rows, position_rows}
 use Rattle.cd_plate.specs.Plate.{nothing, determinant_of, is_cd, inverse_of}
 use Rattle.cd_plate.specs.Filled.{filled}
 use Rattle.wcs.specs.declared.Wcs.{Wcs}
-use Rattle.cd_residuals.specs.declared.Residuals.TheVariants as residuals
 use Rattle.cd_residuals.specs.Residuals.{input_answer, found_of, residual_of, residuals_px, residuals_answer}
 use Rattle.wcs.specs.Wcs.{is_wcs}
 
@@ -44,19 +43,19 @@ distance : residuals_px single unit ≡ five ∷ []
 unfolding filled residual_of found_of inverse_of determinant_of magnitude_of root_of of_bits add sub mul div neg lt
 distance = refl
 
-found : residuals_answer single unit 1 1 1 ≡ residuals.Found 1
+found : residuals_answer single unit 1 1 1 ≡ Ok 1
 unfolding input_answer position_rows every is_wcs is_cd found_of determinant_of magnitude_of of_bits sub mul neg lt le eq
 found = refl
 
 -- an empty result is done, and needs no room
-empty : residuals_answer single flat 0 0 0 ≡ residuals.Found 0
+empty : residuals_answer single flat 0 0 0 ≡ Ok 0
 unfolding input_answer position_rows every is_wcs is_cd found_of determinant_of magnitude_of of_bits sub mul neg lt le eq
 empty = refl
 
-no_room : residuals_answer single unit 1 0 1 ≡ residuals.Refused Room
+no_room : residuals_answer single unit 1 0 1 ≡ Err Room
 unfolding input_answer position_rows every is_wcs is_cd found_of determinant_of magnitude_of of_bits sub mul neg lt le eq
 no_room = refl
 
-no_position : residuals_answer single no_pixel 0 0 0 ≡ residuals.Refused Value
+no_position : residuals_answer single no_pixel 0 0 0 ≡ Err Value
 unfolding input_answer position_rows every is_wcs is_cd of_bits neg lt le eq
 no_position = refl

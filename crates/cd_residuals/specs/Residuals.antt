@@ -1,12 +1,11 @@
 -- The residuals of rows in degrees under a WCS. Each operation is rounded once, in the Rust's order. Definitions only.
-use Rattle.std.specs.Prelude.{cond, not, ◌&&◌, ◌||◌, List, ℕ, ltb, Float}
+use Rattle.answer.specs.declared.Refusal.{Refusal}
+use Rattle.std.specs.Prelude.{cond, not, ◌&&◌, ◌||◌, List, ℕ, ltb, Float, Result, Ok, Err}
 use Rattle.std.specs.Float.Ieee.{lt}
 use Rattle.floats.specs.Magnitude.{magnitude_of}
 use Rattle.root.specs.Root.{root_of}
 use Rattle.answer.specs.Answers.{number_of, first, room_for}
 use Rattle.answer.specs.declared.Refusal.TheVariants as refusal
-use Rattle.answer.specs.declared.Answer.{Answer}
-use Rattle.answer.specs.declared.Answer.TheVariants as answer
 use Rattle.rows.specs.Rows.{Rows, row_at, count, few_rows, even_rows, position_rows}
 use Rattle.rows.specs.declared.Row.{Row}
 use Rattle.cd_plate.specs.declared.Inverse.{Inverse}
@@ -16,16 +15,14 @@ use Rattle.cd_plate.specs.Filled.{filled}
 use Rattle.wcs.specs.declared.Wcs.{Wcs}
 use Rattle.wcs.specs.Wcs.{plate_of, is_wcs}
 use Rattle.cd_residuals.specs.declared.Residual.{Residual}
-use Rattle.cd_residuals.specs.declared.Residuals.{Residuals}
-use Rattle.cd_residuals.specs.declared.Residuals.TheVariants as residuals
 
 -- what the tests of the input come to: number 1, 2 or 3, or done
-unfoldable pub input_answer : Rows → Wcs → Answer
+unfoldable pub input_answer : Rows → Wcs → Result Unit Refusal
 input_answer r w =
-    cond (not (few_rows r)) (answer.Refused refusal.Count)
-    (cond (not (even_rows r)) (answer.Refused refusal.Lengths)
-    (cond (not (position_rows r && is_wcs w)) (answer.Refused refusal.Value)
-    answer.Done))
+    cond (not (few_rows r)) (Err refusal.Count)
+    (cond (not (even_rows r)) (Err refusal.Lengths)
+    (cond (not (position_rows r && is_wcs w)) (Err refusal.Value)
+    (Ok tt)))
 
 -- how many of n rows have a residual: none where the determinant's magnitude is below the least; NaN is not below
 unfoldable pub found_of : Wcs → ℕ → ℕ
@@ -72,23 +69,18 @@ abbrev pub residuals_px : Rows → Wcs → List Float
 residuals_px r w = filled (px_at r w (inverse_of (plate_of w))) (found_of w (count r))
 
 -- number 7 where one of three lists has fewer places than are needed
-abbrev pub room_answer : ℕ → ℕ → ℕ → ℕ → Answer
-room_answer need x y px = cond (ltb x need || ltb y need) (answer.Refused refusal.Room) (room_for need px)
+abbrev pub room_answer : ℕ → ℕ → ℕ → ℕ → Result Unit Refusal
+room_answer need x y px = cond (ltb x need || ltb y need) (Err refusal.Room) (room_for need px)
 
 -- whether the residuals are written: numbers 1, 2, 3 and 7, or done
-abbrev pub residuals_done : Rows → Wcs → ℕ → ℕ → ℕ → Answer
+abbrev pub residuals_done : Rows → Wcs → ℕ → ℕ → ℕ → Result Unit Refusal
 residuals_done r w x y px = first (input_answer r w) (room_answer (found_of w (count r)) x y px)
 
 -- the answer after the tests
-abbrev pub found_after : Answer → ℕ → Residuals
-found_after answer.Done n = residuals.Found n
-found_after (answer.Refused why) n = residuals.Refused why
+abbrev pub found_after : Result Unit Refusal → ℕ → Result ℕ Refusal
+found_after (Ok tt) n = Ok n
+found_after (Err why) n = Err why
 
 -- the answer of `compute_residuals`: that, and how many they are
-abbrev pub residuals_answer : Rows → Wcs → ℕ → ℕ → ℕ → Residuals
+abbrev pub residuals_answer : Rows → Wcs → ℕ → ℕ → ℕ → Result ℕ Refusal
 residuals_answer r w x y px = found_after (residuals_done r w x y px) (found_of w (count r))
-
--- the number of an answer: 0 is done
-abbrev pub residuals_number : Residuals → ℕ
-residuals_number (residuals.Found n) = 0
-residuals_number (residuals.Refused why) = number_of why

@@ -6,31 +6,12 @@ ghost use Rattle.answer.specs.Answers.{written, lent_after};
 ghost use Rattle.rows.specs.Rows.{rows};
 ghost use Rattle.cd_plate.specs.Filled.{filled};
 ghost use Rattle.cd_residuals.specs.Residuals.{input_answer, found_of, residual_of, x_at, y_at, px_at, room_answer};
-ghost use Rattle.cd_residuals.specs.Residuals.{residuals_done, residuals_answer, residuals_number, found_after, residuals_x, residuals_y, residuals_px};
+ghost use Rattle.cd_residuals.specs.Residuals.{residuals_done, residuals_answer, found_after, residuals_x, residuals_y, residuals_px};
 
-use answer::{Answer, Refusal};
+use answer::Refusal;
 use cd_plate::{Cd, Inverse};
 use rows::Row;
 use wcs::Wcs;
-
-// The answer of compute_residuals: how many residuals were written.
-#[derive(Clone, Copy)]
-pub enum Residuals {
-    Found(usize),
-    Refused(Refusal),
-}
-
-impl Residuals {
-    // The number of the answer: 0 is done.
-    pub fn number(self) -> u32
-        ensures { result ≡ residuals_number self }
-    {
-        match self {
-            Residuals::Found(_) => 0,
-            Residuals::Refused(why) => why.number(),
-        }
-    }
-}
 
 // What a row's pixel is away from where its point goes: in x, in y, and in all.
 #[derive(Clone, Copy)]
@@ -51,19 +32,19 @@ fn residual_of(wcs: Wcs, v: Inverse, row: Row) -> Residual
 }
 
 // The tests of the input, in their order.
-fn check_input(px: &[f64], py: &[f64], xi: &[f64], eta: &[f64], wcs: Wcs) -> Answer
+fn check_input(px: &[f64], py: &[f64], xi: &[f64], eta: &[f64], wcs: Wcs) -> Result<(), Refusal>
     ensures { result ≡ input_answer (rows px.now py.now xi.now eta.now) wcs }
 {
     if !rows::few_rows(px, py, xi, eta) {
-        return Answer::Refused(Refusal::Count);
+        return Err(Refusal::Count);
     }
     if !rows::even_rows(px, py, xi, eta) {
-        return Answer::Refused(Refusal::Lengths);
+        return Err(Refusal::Lengths);
     }
     if !(rows::position_rows(px, py, xi, eta) & wcs.is_taken()) {
-        return Answer::Refused(Refusal::Value);
+        return Err(Refusal::Value);
     }
-    Answer::Done
+    Ok(())
 }
 
 // How many of n rows have a residual: none where the factors cannot be inverted. NaN passes.
@@ -77,11 +58,11 @@ fn found_of(wcs: Wcs, n: usize) -> usize
 }
 
 // Whether the three lists have the places that they need.
-fn room_of(need: usize, x: usize, y: usize, px: usize) -> Answer
+fn room_of(need: usize, x: usize, y: usize, px: usize) -> Result<(), Refusal>
     ensures { result ≡ room_answer need x y px }
 {
     if (x < need) | (y < need) {
-        return Answer::Refused(Refusal::Room);
+        return Err(Refusal::Room);
     }
     answer::room_for(need, px)
 }
@@ -131,7 +112,7 @@ fn write_residuals(
     err_x: &mut [f64],
     err_y: &mut [f64],
     err_px: &mut [f64],
-) -> Residuals
+) -> Result<usize, Refusal>
     requires fact_1 { length py.now ≡ length px.now }
     requires fact_2 { length xi.now ≡ length px.now }
     requires fact_3 { length eta.now ≡ length px.now }
@@ -148,14 +129,10 @@ fn write_residuals(
         (residuals_px (rows px.now py.now xi.now eta.now) wcs) err_px.old) }
 {
     let n = found_of(wcs, px.len());
-    match room_of(n, err_x.len(), err_y.len(), err_px.len()) {
-        Answer::Refused(why) => Residuals::Refused(why),
-        Answer::Done => {
-            let v = wcs.plate().inverse();
-            put_residuals(px, py, xi, eta, n, wcs, v, err_x, err_y, err_px);
-            Residuals::Found(n)
-        }
-    }
+    room_of(n, err_x.len(), err_y.len(), err_px.len())?;
+    let v = wcs.plate().inverse();
+    put_residuals(px, py, xi, eta, n, wcs, v, err_x, err_y, err_px);
+    Ok(n)
 }
 
 // The residuals of rows in degrees, written from the front of three lists; none where the
@@ -169,7 +146,7 @@ pub fn compute_residuals(
     err_x: &mut [f64],
     err_y: &mut [f64],
     err_px: &mut [f64],
-) -> Residuals
+) -> Result<usize, Refusal>
     ensures answer { result ≡ residuals_answer (rows px.now py.now xi.now eta.now) wcs
         (length err_x.old) (length err_y.old) (length err_px.old) }
     ensures x { err_x.new ≡ lent_after
@@ -185,8 +162,6 @@ pub fn compute_residuals(
         (length err_x.old) (length err_y.old) (length err_px.old))
         (residuals_px (rows px.now py.now xi.now eta.now) wcs) err_px.old }
 {
-    match check_input(px, py, xi, eta, wcs) {
-        Answer::Refused(why) => Residuals::Refused(why),
-        Answer::Done => write_residuals(px, py, xi, eta, wcs, err_x, err_y, err_px),
-    }
+    check_input(px, py, xi, eta, wcs)?;
+    write_residuals(px, py, xi, eta, wcs, err_x, err_y, err_px)
 }

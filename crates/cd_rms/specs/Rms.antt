@@ -1,12 +1,11 @@
 -- The root mean square of errors, plain and weighted. Each operation is rounded once, in the Rust's order; sums start at 0.0. Definitions only.
-use Rattle.std.specs.Prelude.{cond, not, ◌||◌, List, ℕ, zero, suc, ltb, eqb, pos, length, get_or, Float}
+use Rattle.answer.specs.declared.Refusal.{Refusal}
+use Rattle.std.specs.Prelude.{cond, not, ◌||◌, List, ℕ, zero, suc, ltb, eqb, pos, length, get_or, Float, Result, Ok, Err}
 use Rattle.std.specs.Float.{nan, binary64}
 use Rattle.std.specs.Float.Ieee.{of_bits, of_int, add, mul, div, lt}
 use Rattle.root.specs.Root.{root_of}
 use Rattle.answer.specs.Answers.{number_of}
 use Rattle.answer.specs.declared.Refusal.TheVariants as refusal
-use Rattle.cd_rms.specs.declared.Rms.{Rms}
-use Rattle.cd_rms.specs.declared.Rms.TheVariants as rms
 use Rattle.cd_rms.specs.declared.Weighed.{Weighed}
 
 -- 0.0
@@ -23,8 +22,8 @@ unfoldable pub rms_of : List Float → Float
 rms_of es = cond (eqb (length es) 0) nothing (root_of (div binary64 (squares_to es (length es)) (of_int binary64 (pos (length es)))))
 
 -- the answer of `rms_error`: number 1 for more than 100 errors
-abbrev pub rms_answer : List Float → Rms
-rms_answer es = cond (ltb 100 (length es)) (rms.Refused refusal.Count) (rms.Value (rms_of es))
+abbrev pub rms_answer : List Float → Result Float Refusal
+rms_answer es = cond (ltb 100 (length es)) (Err refusal.Count) (Ok (rms_of es))
 
 -- the sums of no weights
 abbrev pub no_weights : Weighed
@@ -48,13 +47,8 @@ unfoldable pub weighted_of : List Float → List Float → Float
 weighted_of es ws = mean_of (weighted_to es ws (length es))
 
 -- the answer of `weighted_rms_error`: number 1 for a list of more than 100, number 2 where the lengths differ
-abbrev pub weighted_answer : List Float → List Float → Rms
+abbrev pub weighted_answer : List Float → List Float → Result Float Refusal
 weighted_answer es ws =
-    cond (ltb 100 (length es) || ltb 100 (length ws)) (rms.Refused refusal.Count)
-    (cond (not (eqb (length ws) (length es))) (rms.Refused refusal.Lengths)
-    (rms.Value (weighted_of es ws)))
-
--- the number of an answer: 0 is done
-abbrev pub rms_number : Rms → ℕ
-rms_number (rms.Value v) = 0
-rms_number (rms.Refused why) = number_of why
+    cond (ltb 100 (length es) || ltb 100 (length ws)) (Err refusal.Count)
+    (cond (not (eqb (length ws) (length es))) (Err refusal.Lengths)
+    (Ok (weighted_of es ws)))

@@ -2,39 +2,19 @@
 #![tactic(auto)]
 
 ghost use Rattle.std.specs.Prelude.{◌≡◌, ◌≤◌, length};
-ghost use Rattle.cd_rms.specs.Rms.{squares_to, rms_of, rms_answer, rms_number, no_weights, with_error, weighted_to, weighted_of, weighted_answer};
+ghost use Rattle.cd_rms.specs.Rms.{squares_to, rms_of, rms_answer, no_weights, with_error, weighted_to, weighted_of, weighted_answer};
 
 use answer::Refusal;
 
 // The longest list of residuals.
 const MOST_ERRORS: usize = 100;
 
-// The answer of both calls.
-#[derive(Clone, Copy)]
-pub enum Rms {
-    Value(f64),
-    Refused(Refusal),
-}
-
-impl Rms {
-    // The number of the answer: 0 is done.
-    pub fn number(self) -> u32
-        ensures { result ≡ rms_number self }
-    {
-        match self {
-            Rms::Value(_) => 0,
-            Rms::Refused(why) => why.number(),
-        }
-    }
-}
-
 // The sum of the squares, from the first on.
 fn sum_squares(errors: &[f64]) -> f64
     ensures { result ≡ squares_to errors.now (length errors.now) }
 {
     let mut sum = 0.0;
-    for i in 0..errors.len() {
-        let e = errors[i];
+    for e in errors {
         sum = sum + e * e;
     }
     sum
@@ -53,13 +33,13 @@ fn rms_of(errors: &[f64]) -> f64
 }
 
 // The root mean square of errors.
-pub fn rms_error(err_px: &[f64]) -> Rms
+pub fn rms_error(err_px: &[f64]) -> Result<f64, Refusal>
     ensures { result ≡ rms_answer err_px.now }
 {
     if MOST_ERRORS < err_px.len() {
-        return Rms::Refused(Refusal::Count);
+        return Err(Refusal::Count);
     }
-    Rms::Value(rms_of(err_px))
+    Ok(rms_of(err_px))
 }
 
 // The sum of weights, and that of the weighted squares.
@@ -113,14 +93,14 @@ fn weighted_of(errors: &[f64], weights: &[f64]) -> f64
 }
 
 // The weighted root mean square of errors.
-pub fn weighted_rms_error(err_px: &[f64], weights: &[f64]) -> Rms
+pub fn weighted_rms_error(err_px: &[f64], weights: &[f64]) -> Result<f64, Refusal>
     ensures { result ≡ weighted_answer err_px.now weights.now }
 {
     if (MOST_ERRORS < err_px.len()) | (MOST_ERRORS < weights.len()) {
-        return Rms::Refused(Refusal::Count);
+        return Err(Refusal::Count);
     }
     if weights.len() != err_px.len() {
-        return Rms::Refused(Refusal::Lengths);
+        return Err(Refusal::Lengths);
     }
-    Rms::Value(weighted_of(err_px, weights))
+    Ok(weighted_of(err_px, weights))
 }

@@ -44,8 +44,8 @@ pub fn put_roots(weights: &[f64], roots: &mut [f64])
     requires { length weights.now ≤ length roots.old }
     ensures { roots.new ≡ written (roots_of weights.now) roots.old }
 {
-    for i in 0..weights.len() {
-        roots[i] = root::root(weights[i]);
+    for (i, w) in weights.iter().enumerate() {
+        roots[i] = root::root(*w);
     }
 }
 

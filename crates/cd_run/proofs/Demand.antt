@@ -1,4 +1,5 @@
 -- No trial had a better plate: every run keeps what is demanded of it. Assumes nothing.
+use Rattle.std.specs.Prelude.{Result, Ok, Err}
 use mathlib.Core.Path.{◌≡◌, refl, sym, ap, ◌∙◌, subst}
 use mathlib.Core.Bool.{Bool, true, false, cond}
 use mathlib.Core.List.{List, Memᴰ}
@@ -12,8 +13,6 @@ use lib.Ieee.{Float}
 use borrow.Author.Tests.{ltb-true, ltb-false}
 use Rattle.answer.specs.declared.Refusal.{Refusal}
 use Rattle.answer.specs.declared.Refusal.TheVariants as refusal
-use Rattle.answer.specs.declared.Answer.{Answer}
-use Rattle.answer.specs.declared.Answer.TheVariants as answer
 use Rattle.rows.specs.Rows.{Rows}
 use Rattle.rows.specs.Rows as rows
 use Rattle.draw.specs.Draw.{Triple}
@@ -123,9 +122,9 @@ module _ (r : Rows) (limit : Float) (pool : List ℕ) (trials : ℕ) where
   exceeds m o = made_has (fit_triple r pool) (fit_again r limit) (near_count r limit) Exceeds (λ t k h. places_exceed r (places_of pool t) k h) (λ f k h. again_exceeds r limit f k h) o.made
 
   -- ---- the demand, of what a run answers and leaves
-  module _ (old : List ℕ) (v : CdRun) (mask : List ℕ) where
+  module _ (old : List ℕ) (v : Result CdRun Refusal) (mask : List ℕ) where
     fitted_best : (o : Outcome) → pool_end r limit pool trials ≡ o → v ≡ end_answer r limit o → mask ≡ end_mask r limit o old
-        → (k : ℕ) → v ≡ run.Fitted k → FittedBest r limit pool trials k mask
+        → (k : ℕ) → v ≡ Ok (run.Fitted k) → FittedBest r limit pool trials k mask
     fitted_best (refused why) p a m k e = let z : ◌≡◌ {A = ℕ} 0 1 = cc in absurd (omega arith)
     fitted_best untested p a m k e = let z : ◌≡◌ {A = ℕ} 0 1 = cc in absurd (omega arith)
     fitted_best (fitted l) p a m k e =
@@ -145,7 +144,7 @@ module _ (r : Rows) (limit : Float) (pool : List ℕ) (trials : ℕ) where
         }
 
     untested_all : (o : Outcome) → pool_end r limit pool trials ≡ o → v ≡ end_answer r limit o → mask ≡ end_mask r limit o old
-        → (k : ℕ) → v ≡ run.Untested k → AllOn r pool k mask
+        → (k : ℕ) → v ≡ Ok (run.Untested k) → AllOn r pool k mask
     untested_all (refused why) p a m k e = let z : ◌≡◌ {A = ℕ} 0 1 = cc in absurd (omega arith)
     untested_all (fitted l) p a m k e = let z : ◌≡◌ {A = ℕ} 0 1 = cc in absurd (omega arith)
     untested_all untested p a m k e =
@@ -156,7 +155,7 @@ module _ (r : Rows) (limit : Float) (pool : List ℕ) (trials : ℕ) where
           counted = q;
         }
 
-    nine_none : (o : Outcome) → pool_end r limit pool trials ≡ o → v ≡ end_answer r limit o → v ≡ run.Refused refusal.Few → NoneHasThree r limit pool trials
+    nine_none : (o : Outcome) → pool_end r limit pool trials ≡ o → v ≡ end_answer r limit o → v ≡ Err refusal.Few → NoneHasThree r limit pool trials
     nine_none (fitted l) p a e = let z : ◌≡◌ {A = ℕ} 0 1 = cc in absurd (omega arith)
     nine_none untested p a e = let z : ◌≡◌ {A = ℕ} 0 1 = cc in absurd (omega arith)
     nine_none (refused why) p a e =
@@ -168,19 +167,19 @@ module _ (r : Rows) (limit : Float) (pool : List ℕ) (trials : ℕ) where
 
     -- what is demanded of a fitted run
     abbrev pub KeptFitted : Type 0
-    KeptFitted = (k : ℕ) → v ≡ run.Fitted k → FittedBest r limit pool trials k mask
+    KeptFitted = (k : ℕ) → v ≡ Ok (run.Fitted k) → FittedBest r limit pool trials k mask
 
     -- of an untested one
     abbrev pub KeptUntested : Type 0
-    KeptUntested = (k : ℕ) → v ≡ run.Untested k → AllOn r pool k mask
+    KeptUntested = (k : ℕ) → v ≡ Ok (run.Untested k) → AllOn r pool k mask
 
     -- and of number 9
     abbrev pub KeptNine : Type 0
-    KeptNine = v ≡ run.Refused refusal.Few → NoneHasThree r limit pool trials
+    KeptNine = v ≡ Err refusal.Few → NoneHasThree r limit pool trials
 
     -- it follows from the answer and the mask, after any tests that do not give number 9
-    pub kept : (a : Answer) → (a ≡ answer.Refused refusal.Few → ⊥) → v ≡ end_answer r limit (after_tests a (pool_end r limit pool trials))
+    pub kept : (a : Result Unit Refusal) → (a ≡ Err refusal.Few → ⊥) → v ≡ end_answer r limit (after_tests a (pool_end r limit pool trials))
         → mask ≡ end_mask r limit (after_tests a (pool_end r limit pool trials)) old → KeptFitted × (KeptUntested × KeptNine)
-    kept answer.Done n e m = (fitted_best (pool_end r limit pool trials) refl e m, (untested_all (pool_end r limit pool trials) refl e m, nine_none (pool_end r limit pool trials) refl e))
-    kept (answer.Refused why) n e m =
-        (λ k h. let z : ◌≡◌ {A = ℕ} 0 1 = cc in absurd (omega arith), (λ k h. let z : ◌≡◌ {A = ℕ} 0 1 = cc in absurd (omega arith), λ h. let q : why ≡ refusal.Few = cc in absurd (n (ap answer.Refused q))))
+    kept (Ok tt) n e m = (fitted_best (pool_end r limit pool trials) refl e m, (untested_all (pool_end r limit pool trials) refl e m, nine_none (pool_end r limit pool trials) refl e))
+    kept (Err why) n e m =
+        (λ k h. let z : ◌≡◌ {A = ℕ} 0 1 = cc in absurd (omega arith), (λ k h. let z : ◌≡◌ {A = ℕ} 0 1 = cc in absurd (omega arith), λ h. let q : why ≡ refusal.Few = cc in absurd (n (ap Err q))))

@@ -1,4 +1,6 @@
 -- How a run ends, by the tests on the way. Assumes nothing.
+use Rattle.answer.specs.declared.Refusal.{Refusal}
+use Rattle.std.specs.Prelude.{Ok, Err, Result}
 use mathlib.Core.Path.{◌≡◌, sym, ap, ◌∙◌}
 use mathlib.Core.Bool.{Bool, true, false, cond, not, ◌&&◌, and-eq-true_iff}
 use mathlib.Core.List.{List}
@@ -12,7 +14,6 @@ use borrow.Author.Tests.{lt-ltb, le-ltb, ltb-false, leb-true, le-leb, eqb-true, 
 use Rattle.answer.proofs.Passed.{passed}
 use Rattle.domain.specs.Domain.{is_limit}
 use Rattle.answer.specs.declared.Refusal.TheVariants as refusal
-use Rattle.answer.specs.declared.Answer.TheVariants as answer
 use Rattle.rows.specs.Rows.{Rows, count, few_rows, even_rows, position_rows}
 use Rattle.draw.specs.Best as best
 use Rattle.cd_plate.specs.declared.Cd.{Cd}
@@ -42,7 +43,7 @@ module _ (r : Rows) (votes : ℕ) (limit : Float) (trials places : ℕ) where
     good : (position_rows r && is_limit limit) ≡ true
     room : ltb places (count r) ≡ false
 
-  tests : tests_of r votes limit trials places ≡ answer.Done → Tests
+  tests : tests_of r votes limit trials places ≡ Ok tt → Tests
   unfolding tests_of
   tests e =
       let f = passed (not (few_rows r && (leb votes 100 && leb trials most_trials))) _ _ e in
@@ -57,7 +58,7 @@ module _ (r : Rows) (votes : ℕ) (limit : Float) (trials places : ℕ) where
         room = (passed (ltb places (count r)) _ _ h.1).0;
       }
 
-  pub tests_passed : tests_of r votes limit trials places ≡ answer.Done → Passed r votes limit trials places
+  pub tests_passed : tests_of r votes limit trials places ≡ Ok tt → Passed r votes limit trials places
   tests_passed e =
       let t = tests e in
       let pixels = ((and-eq-true_iff (leb (length r.px) 100 && leb (length r.py) 100) _).0 t.few).0 in
@@ -74,20 +75,24 @@ module _ (r : Rows) (votes : ℕ) (limit : Float) (trials places : ℕ) where
       }
 
   -- any other number of trials that is in its limit passes too
-  pub tests_again : tests_of r votes limit trials places ≡ answer.Done → (other : ℕ) → other ≤ most_trials → tests_of r votes limit other places ≡ answer.Done
+  pub tests_again : tests_of r votes limit trials places ≡ Ok tt → (other : ℕ) → other ≤ most_trials → tests_of r votes limit other places ≡ Ok tt
   unfolding tests_of
   tests_again e other h =
       let t = tests e in
       rw (t.few, t.votes_few, le-leb other most_trials h, t.even, t.good, t.room)
 
+  -- tests that refuse nothing
+  abbrev none_refused : Result Unit Refusal
+  none_refused = Ok tt
+
   -- no test gives number 9
-  pub tests_not_nine : tests_of r votes limit trials places ≡ answer.Refused refusal.Few → ⊥
+  pub tests_not_nine : tests_of r votes limit trials places ≡ Err refusal.Few → ⊥
   unfolding tests_of
   tests_not_nine =
       go (not (few_rows r && (leb votes 100 && leb trials most_trials))) (not (even_rows r)) (not (position_rows r && is_limit limit)) (ltb places (count r))
     where
       go : (a b c d : Bool)
-          → cond a (answer.Refused refusal.Count) (cond b (answer.Refused refusal.Lengths) (cond c (answer.Refused refusal.Value) (cond d (answer.Refused refusal.Room) answer.Done))) ≡ answer.Refused refusal.Few
+          → cond a (Err refusal.Count) (cond b (Err refusal.Lengths) (cond c (Err refusal.Value) (cond d (Err refusal.Room) none_refused))) ≡ Err refusal.Few
           → ⊥
       go true b c d e = let z : ◌≡◌ {A = ℕ} 0 1 = cc in omega arith
       go false true c d e = let z : ◌≡◌ {A = ℕ} 0 1 = cc in omega arith
@@ -96,7 +101,7 @@ module _ (r : Rows) (votes : ℕ) (limit : Float) (trials places : ℕ) where
       go false false false false e = let z : ◌≡◌ {A = ℕ} 0 1 = cc in omega arith
 
 -- ---- what is returned and left, once it is known how the run ends
-pub ended : (r : Rows) (limit : Float) (old : List ℕ) (v : CdRun) (mask : List ℕ) (o e : Outcome) → o ≡ e
+pub ended : (r : Rows) (limit : Float) (old : List ℕ) (v : Result CdRun Refusal) (mask : List ℕ) (o e : Outcome) → o ≡ e
     → v ≡ end_answer r limit e → mask ≡ end_mask r limit e old → (v ≡ end_answer r limit o) × (mask ≡ end_mask r limit o old)
 ended r limit old v mask o e p a m = rw p (a, m)
 

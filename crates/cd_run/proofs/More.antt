@@ -1,4 +1,6 @@
 -- More trials still answer fitted, with no fewer rows on. Assumes nothing.
+use Rattle.answer.specs.declared.Refusal.{Refusal}
+use Rattle.std.specs.Prelude.{Result, Ok, Err}
 use mathlib.Core.Path.{◌≡◌, refl, ap, subst}
 use mathlib.Core.List.{List}
 use mathlib.Core.Option.{Option, some, none}
@@ -7,8 +9,6 @@ use native.Mathlib.Omega.{arith}
 use lib.ListN.{length}
 use lib.Ieee.{Float}
 use borrow.Author.Tests.{le-ltb}
-use Rattle.answer.specs.declared.Answer.{Answer}
-use Rattle.answer.specs.declared.Answer.TheVariants as answer
 use Rattle.rows.specs.Rows.{Rows}
 use Rattle.rows.specs.Rows as rows
 use Rattle.draw.specs.Best.{count}
@@ -47,17 +47,17 @@ module _ (r : Rows) (limit : Float) (pool : List ℕ) (trials more : ℕ) where
           (l, rw (le-ltb _ _ p, h, le-ltb _ _ k), n)
 
 -- ---- the whole run
-fitted_end : (r : Rows) (limit : Float) (o : Outcome) (k : ℕ) → end_answer r limit o ≡ run.Fitted k → (m : Cd) × (o ≡ fitted m) × (k ≡ near_count r limit m)
+fitted_end : (r : Rows) (limit : Float) (o : Outcome) (k : ℕ) → end_answer r limit o ≡ Ok (run.Fitted k) → (m : Cd) × (o ≡ fitted m) × (k ≡ near_count r limit m)
 fitted_end r limit (refused why) k e = let z : ◌≡◌ {A = ℕ} 0 1 = cc in absurd (omega arith)
 fitted_end r limit untested k e = let z : ◌≡◌ {A = ℕ} 0 1 = cc in absurd (omega arith)
 fitted_end r limit (fitted m) k e = (m, refl, cc)
 
-tests_done : (a : Answer) (o : Outcome) (m : Cd) → after_tests a o ≡ fitted m → (a ≡ answer.Done) × (o ≡ fitted m)
-tests_done answer.Done o m e = (refl, e)
-tests_done (answer.Refused why) o m e = absurd (refused_not_fitted e)
+tests_done : (a : Result Unit Refusal) (o : Outcome) (m : Cd) → after_tests a o ≡ fitted m → (a ≡ Ok tt) × (o ≡ fitted m)
+tests_done (Ok tt) o m e = (refl, e)
+tests_done (Err why) o m e = absurd (refused_not_fitted e)
 
 -- More trials, up to 1,000, on the same input still answer fitted, with no fewer rows on
-pub more_plates : (r : Rows) (votes : List ℕ) (limit : Float) (trials places k : ℕ) → run_answer r votes limit trials places ≡ run.Fitted k
+pub more_plates : (r : Rows) (votes : List ℕ) (limit : Float) (trials places k : ℕ) → run_answer r votes limit trials places ≡ Ok (run.Fitted k)
     → StillFitted (λ n. run_answer r votes limit n places) trials k
 unfolding run_end
 more_plates r votes limit trials places k e = record { more = λ n l h. subst (λ m. FittedWith k (run_answer r votes limit m places)) (sum n l) (at (n - trials) (omega (arith, sum n l))) }

@@ -8,8 +8,7 @@ ghost use Rattle.cd_pool.specs.Pool.{pool_of};
 ghost use Rattle.cd_run.specs.Run.{tests_of, pool_end, end_answer, end_mask, run_answer, mask_after, run_number};
 ghost use Rattle.cd_run.specs.Demand.{FittedBest, AllOn, NoneHasThree, StillFitted};
 
-use answer::{Answer, Refusal};
-use cd_fit::CdFit;
+use answer::Refusal;
 use cd_near::Reach;
 use cd_plate::Cd;
 
@@ -19,24 +18,21 @@ const MOST_VOTES: usize = 100;
 // The least rows of a pool that is searched, and of a plate that is fitted.
 const LEAST_ROWS: usize = 3;
 
-// The answer of ransac_fit: how many rows are on, or why there are none.
+// What a run of ransac_fit that is not refused comes to, with how many rows are on.
 #[derive(Clone, Copy)]
 pub enum CdRun {
     Fitted(usize),
     Untested(usize),
-    Refused(Refusal),
 }
 
-impl CdRun {
-    // The number of the answer: 0 is done, fitted or untested.
-    pub fn number(self) -> u32
-        ensures { result ≡ run_number self }
-    {
-        match self {
-            CdRun::Fitted(_) => 0,
-            CdRun::Untested(_) => 0,
-            CdRun::Refused(why) => why.number(),
-        }
+// The number of an answer: 0 is done, fitted or untested.
+pub fn number(answer: Result<CdRun, Refusal>) -> u32
+    ensures { result ≡ run_number answer }
+{
+    match answer {
+        Ok(CdRun::Fitted(_)) => 0,
+        Ok(CdRun::Untested(_)) => 0,
+        Err(why) => why.number(),
     }
 }
 
@@ -50,17 +46,17 @@ fn check_run(
     limit: f64,
     trials: usize,
     places: usize,
-) -> Answer
+) -> Result<(), Refusal>
     ensures { result ≡ tests_of (rows px.now py.now xi.now eta.now) votes limit trials places }
 {
     if !(rows::few_rows(px, py, xi, eta) & ((votes <= MOST_VOTES) & (trials <= Cd::MOST_TRIALS))) {
-        return Answer::Refused(Refusal::Count);
+        return Err(Refusal::Count);
     }
     if !rows::even_rows(px, py, xi, eta) {
-        return Answer::Refused(Refusal::Lengths);
+        return Err(Refusal::Lengths);
     }
     if !(rows::position_rows(px, py, xi, eta) & domain::is_limit(limit)) {
-        return Answer::Refused(Refusal::Value);
+        return Err(Refusal::Value);
     }
     answer::room_for(px.len(), places)
 }
@@ -75,7 +71,7 @@ fn run_pool(
     limit: f64,
     trials: usize,
     mask: &mut [u8],
-) -> CdRun
+) -> Result<CdRun, Refusal>
     requires py_len_1 { length py.now ≡ length px.now }
     requires py_len_2 { length xi.now ≡ length px.now }
     requires py_len_3 { length eta.now ≡ length px.now }
@@ -91,20 +87,20 @@ fn run_pool(
     let n = px.len();
     if pool.len() < LEAST_ROWS {
         cd_mask::fill_ones(mask, n);
-        return CdRun::Untested(n);
+        return Ok(CdRun::Untested(n));
     }
     let reach = Reach::of(limit);
     let held = cd_trial::search(px, py, xi, eta, pool, reach, trials);
     let on = held.on;
     let f = held.fit;
     match f {
-        CdFit::Refused(_) => CdRun::Refused(Refusal::Few),
-        CdFit::Plate(m) => {
+        Err(_) => Err(Refusal::Few),
+        Ok(m) => {
             if on < LEAST_ROWS {
-                return CdRun::Refused(Refusal::Few);
+                return Err(Refusal::Few);
             }
             cd_near::mark_near(px, py, xi, eta, m, reach, mask);
-            CdRun::Fitted(on)
+            Ok(CdRun::Fitted(on))
         }
     }
 }
@@ -132,25 +128,21 @@ pub fn ransac_fit(
     limit: f64,
     trials: usize,
     mask: &mut [u8],
-) -> CdRun
+) -> Result<CdRun, Refusal>
     ensures answer { result ≡ run_answer (rows px.now py.now xi.now eta.now) votes.now limit trials (length mask.old) }
     ensures mask { mask.new ≡ mask_after (rows px.now py.now xi.now eta.now) votes.now limit trials mask.old }
-    ensures fitted { (k : ℕ) → result ≡ CdRun.Fitted k
+    ensures fitted { (k : ℕ) → result ≡ Ok (CdRun.Fitted k)
         → FittedBest (rows px.now py.now xi.now eta.now) limit (pool_of votes.now (length px.now)) trials k mask.new }
-    ensures untested { (k : ℕ) → result ≡ CdRun.Untested k
+    ensures untested { (k : ℕ) → result ≡ Ok (CdRun.Untested k)
         → AllOn (rows px.now py.now xi.now eta.now) (pool_of votes.now (length px.now)) k mask.new }
-    ensures nine { result ≡ CdRun.Refused Refusal.Few
+    ensures nine { result ≡ Err Refusal.Few
         → NoneHasThree (rows px.now py.now xi.now eta.now) limit (pool_of votes.now (length px.now)) trials }
-    ensures more { (k : ℕ) → result ≡ CdRun.Fitted k
+    ensures more { (k : ℕ) → result ≡ Ok (CdRun.Fitted k)
         → StillFitted (λ n. run_answer
         (rows px.now py.now xi.now eta.now) votes.now limit n (length mask.old)) trials k }
 {
-    match check_run(px, py, xi, eta, votes.len(), limit, trials, mask.len()) {
-        Answer::Refused(why) => CdRun::Refused(why),
-        Answer::Done => {
-            let mut places = no_places();
-            let count = cd_pool::pool_of(votes, px.len(), &mut places);
-            run_pool(px, py, xi, eta, &places[..count], limit, trials, mask)
-        }
-    }
+    check_run(px, py, xi, eta, votes.len(), limit, trials, mask.len())?;
+    let mut places = no_places();
+    let count = cd_pool::pool_of(votes, px.len(), &mut places);
+    run_pool(px, py, xi, eta, &places[..count], limit, trials, mask)
 }

@@ -1,4 +1,5 @@
 -- The determinant of every plate that is fitted exceeds the least in magnitude. Assumes nothing.
+use Rattle.std.specs.Prelude.{Ok, Err}
 use mathlib.Core.Path.{◌≡◌, refl, subst}
 use mathlib.Core.Bool.{Bool, true, false, cond}
 use mathlib.Core.List.{List}
@@ -14,7 +15,6 @@ use Rattle.elimination.specs.Elimination.{Solved, Unknowns, Singular}
 use Rattle.cd_plate.specs.declared.Cd.{Cd}
 use Rattle.cd_plate.specs.Plate.{least_determinant, determinant_of}
 use Rattle.cd_sums.specs.Sums.{xi_of, eta_of, plain_sums}
-use Rattle.cd_fit.specs.declared.CdFit.TheVariants as fit
 use Rattle.cd_fit.specs.Fit.{axis_of, plate_in, plate_fit, both_axes, fit_of}
 use Rattle.cd_near.specs.Near.{near_marks}
 use Rattle.cd_trial.specs.Trial.{model_of, triple_marks, fit_marked, fit_places, fit_again}
@@ -27,7 +27,7 @@ plate_exceeds : (cd m : Cd) → model_of (plate_fit cd) ≡ some m → Exceeds m
 unfolding plate_fit
 plate_exceeds cd m = go (lt least_determinant (magnitude_of (determinant_of cd))) refl
   where
-    go : (b : Bool) → lt least_determinant (magnitude_of (determinant_of cd)) ≡ b → model_of (cond b (fit.Plate cd) (fit.Refused refusal.Degenerate)) ≡ some m → Exceeds m
+    go : (b : Bool) → lt least_determinant (magnitude_of (determinant_of cd)) ≡ b → model_of (cond b (Ok cd) (Err refusal.Degenerate)) ≡ some m → Exceeds m
     go true e h =
         let q : cd ≡ m = cc in
         subst Exceeds q e

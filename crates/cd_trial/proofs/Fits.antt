@@ -1,4 +1,6 @@
 -- The fits of a trial, from the sums that the code makes. Assumes nothing.
+use Rattle.answer.specs.declared.Refusal.{Refusal}
+use Rattle.std.specs.Prelude.{Result}
 use mathlib.Core.Path.{◌≡◌, refl, sym, ap, ◌∙◌}
 use mathlib.Core.Bool.{true, false}
 use mathlib.Core.List.{List}
@@ -20,7 +22,6 @@ use Rattle.cd_sums.specs.Sums.{xi_of, eta_of, three_sums, plain_sums}
 use Rattle.cd_sums.specs.Both.{xi_part, eta_part, Both}
 use Rattle.cd_sums.proofs.Three.{three_on}
 use Rattle.cd_fit.specs.Fit.{fit_of}
-use Rattle.cd_fit.specs.declared.CdFit.{CdFit}
 use Rattle.cd_fit.proofs.Axes.{same_fit, fit_both}
 use Rattle.cd_near.specs.Near.{near_marks, near_count}
 use Rattle.cd_trial.specs.declared.Held.{Held}
@@ -36,7 +37,7 @@ skipped r t e = rw e
 -- three different ones have that of the sums of their rows, in rising order
 pub three_fit : (r : Rows) (t s : Triple) → is_repeated t ≡ false → Rising t s → s.c < rows.count r
     → (p q w : Row) → p ≡ row_at r s.a → q ≡ row_at r s.b → w ≡ row_at r s.c
-    → (sums : Sums) → Both sums (three_sums xi_of p q w) (three_sums eta_of p q w) → (f : CdFit) → f ≡ fit_of (xi_part sums) (eta_part sums) → model_of f ≡ fit_places r t
+    → (sums : Sums) → Both sums (three_sums xi_of p q w) (three_sums eta_of p q w) → (f : Result Cd Refusal) → f ≡ fit_of (xi_part sums) (eta_part sums) → model_of f ≡ fit_places r t
 unfolding fit_places fit_marked
 three_fit r t s e u h p q w x y z sums b f d = rw e (ap model_of (d ∙ fit_both b ∙ sym (same_fit (sum xi_of) (sum eta_of))))
   where
@@ -53,7 +54,7 @@ near_front r limit m old mask e = ap (take (rows.count r)) e ∙ take_at (near_m
 -- the refit, from the sums over that mask
 pub again_fit : (r : Rows) (limit : Float) (m : Cd) (mask : List ℕ) → mask ≡ near_marks r limit m
     → (sums : Sums) → Both sums (plain_sums r mask xi_of (rows.count r)) (plain_sums r mask eta_of (rows.count r))
-    → (f : CdFit) → f ≡ fit_of (xi_part sums) (eta_part sums) → model_of f ≡ fit_again r limit m
+    → (f : Result Cd Refusal) → f ≡ fit_of (xi_part sums) (eta_part sums) → model_of f ≡ fit_again r limit m
 unfolding fit_again fit_marked
 again_fit r limit m mask e sums b f d =
     ap model_of (d ∙ fit_both b ∙ ap (λ l. fit_of (plain_sums r l xi_of (rows.count r)) (plain_sums r l eta_of (rows.count r))) e)

@@ -1,5 +1,6 @@
 -- The trials of the CD run: the plate of a drawn triple, its refit, and the best of a run. Definitions only.
-use Rattle.std.specs.Prelude.{Bool, ◌||◌, List, ℕ, ◌<◌, eqb, length, get_or, Float}
+use Rattle.answer.specs.declared.Refusal.{Refusal}
+use Rattle.std.specs.Prelude.{Bool, ◌||◌, List, ℕ, ◌<◌, eqb, length, get_or, Float, Result, Ok, Err}
 use Rattle.std.proofs.Math.Option.{Option, some, none}
 use Rattle.rows.specs.Rows.{Rows}
 use Rattle.rows.specs.Rows as rows
@@ -9,8 +10,6 @@ use Rattle.cd_plate.specs.declared.Cd.{Cd}
 use Rattle.cd_mask.specs.Marks.{marks}
 use Rattle.cd_sums.specs.Sums.{xi_of, eta_of, plain_sums}
 use Rattle.cd_fit.specs.Fit.{fit_of}
-use Rattle.cd_fit.specs.declared.CdFit.{CdFit}
-use Rattle.cd_fit.specs.declared.CdFit.TheVariants as fit
 use Rattle.cd_near.specs.Near.{near_marks, near_count}
 
 -- the word before the first draw
@@ -30,9 +29,9 @@ unfoldable pub triple_marks : ℕ → Triple → List ℕ
 triple_marks n p = marks (is_one_of p) n
 
 -- the plate of a fit, where there is one
-abbrev pub model_of : CdFit → Option Cd
-model_of (fit.Plate m) = some m
-model_of (fit.Refused why) = none
+abbrev pub model_of : Result Cd Refusal → Option Cd
+model_of (Ok m) = some m
+model_of (Err why) = none
 
 -- the plate that fits the rows that are on, where there is one
 unfoldable pub fit_marked : Rows → List ℕ → Option Cd

@@ -14,25 +14,25 @@ use cd_plate::Cd;
 // The longest list of weights.
 const MOST_ROWS: usize = 100;
 
-// Writes the numbers of a plate over six others.
+// Writes the numbers of a plate over six others, which is room enough.
 fn put_plate(cd: &mut [f64], m: Cd)
     requires { length cd.old ≡ 6 }
     ensures { cd.new ≡ cd_numbers m }
 {
-    cd_plate::put_cd(cd, m);
+    let _ = cd_plate::put_cd(cd, m);
 }
 
 // Writes the plate of a clip that hands one back; the number of the clip.
-fn put_clip(end: Clipped, cd: &mut [f64]) -> u32
+fn put_clip(end: Result<Clipped, Refusal>, cd: &mut [f64]) -> u32
     requires { length cd.old ≡ 6 }
     ensures number { result ≡ clip_number end }
     ensures cd { cd.new ≡ plate_after end cd.old }
 {
-    let number = end.number();
+    let number = cd_clip::number(end);
     match end {
-        Clipped::Done(m) => put_plate(cd, m),
-        Clipped::Stopped(m) => put_plate(cd, m),
-        Clipped::Refused(_) => {}
+        Ok(Clipped::Done(m)) => put_plate(cd, m),
+        Ok(Clipped::Stopped(m)) => put_plate(cd, m),
+        Err(_) => {}
     }
     number
 }

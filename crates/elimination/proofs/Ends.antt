@@ -1,4 +1,5 @@
 -- How one column goes, and how the elimination ends with it. Assumes nothing.
+use Rattle.std.specs.Prelude.{Ok, Err}
 use Prim.Native.Nat.{ℕ, suc, ◌+◌, ◌-◌, ◌<◌, ◌≤◌}
 use mathlib.Core.Path.{◌≡◌, refl, sym, ◌∙◌}
 use mathlib.Core.Bool.{true, false, true≢false}
@@ -12,7 +13,6 @@ use Rattle.elimination.specs.Elimination.{least, column, Ended, Reduced, Stopped
 use Rattle.elimination.specs.Agrees.{Agrees}
 use Rattle.elimination.specs.Steps.{Cleared}
 use Rattle.elimination.proofs.Alike.{Same, own, tested, from_none, from_more, from_alike, reduced_alike, same_through}
-use Rattle.elimination.specs.declared.Eliminated.TheVariants as answer
 
 module _ (m : Matrix) (n w col row : ℕ) (size : Float) (l : List Float) (p : row ≡ pivot_of m n col) (s : size ≡ magnitude_of (m row col)) where
   pub cleared_no : lt least size ≡ false → Cleared m n w col false l
@@ -28,10 +28,10 @@ module _ (e : Ended) (m : Matrix) (n w col : ℕ) (h : col < n) (s : Same n w ow
   left : n - col ≡ suc (n - (col + 1))
   left = omega arith
 
-  pub ended_stop : tested m n col ≡ false → (l : List Float) → Agrees e (answer.Stopped col) l n w
+  pub ended_stop : tested m n col ≡ false → (l : List Float) → Agrees e (Err (record { col = col })) l n w
   ended_stop t l = go e (rw (left, from_more (n - (col + 1)) m n col, t) at s)
     where
-      go : (e : Ended) → Same n w own e (Stopped col) → Agrees e (answer.Stopped col) l n w
+      go : (e : Ended) → Same n w own e (Stopped col) → Agrees e (Err (record { col = col })) l n w
       go (Reduced a) d = absurd d
       go (Stopped a) d = record { told = rw d; held = tt }
 
@@ -41,11 +41,11 @@ module _ (e : Ended) (m : Matrix) (n w col : ℕ) (h : col < n) (s : Same n w ow
       (rw (left, from_more (n - (col + 1)) m n col, t) at s)
       (from_alike n w own g (λ x y. refl) (λ x y. y) (n - (col + 1)) (column m n col) (cells l w) (col + 1) (omega arith) a)
 
-pub ended_all : (e : Ended) (l : List Float) (n w col : ℕ) → col ≡ n → Same n w own e (eliminate_from (n - col) (cells l w) n col) → Agrees e answer.Reduced l n w
+pub ended_all : (e : Ended) (l : List Float) (n w col : ℕ) → col ≡ n → Same n w own e (eliminate_from (n - col) (cells l w) n col) → Agrees e (Ok tt) l n w
 ended_all e l n w col h s =
     let z : n - col ≡ 0 = omega arith in
     go e (rw (z, from_none (cells l w) n col) at s)
   where
-    go : (e : Ended) → Same n w own e (Reduced (cells l w)) → Agrees e answer.Reduced l n w
+    go : (e : Ended) → Same n w own e (Reduced (cells l w)) → Agrees e (Ok tt) l n w
     go (Reduced a) d = record { told = refl; held = d }
     go (Stopped a) d = absurd d

@@ -1,5 +1,6 @@
 -- What a system comes to: told by its elimination, the same for like matrices, and for each right side as if it stood alone. Assumes nothing.
 -- an elimination that is told to be done: each right side's unknowns are those of the list
+use Rattle.std.specs.Prelude.{Result, Ok, Err}
 use Prim.Native.Nat.{ℕ, zero, suc, ◌+◌, ◌<◌, ◌≤◌}
 use mathlib.Core.Path.{◌≡◌, refl, sym, ap, ◌∙◌}
 use mathlib.Core.Bool.{Bool, true, false, cond}
@@ -12,23 +13,28 @@ use Rattle.elimination_rows.specs.Matrix.{Matrix, cells, pivot_of}
 use Rattle.elimination_rows.specs.Holds.{Holds}
 use Rattle.elimination.specs.Elimination.{column, Ended, Reduced, Stopped, eliminate_from, eliminated, unknowns, Unknowns, Singular, solved_by, solution, alone}
 use Rattle.elimination.specs.Agrees.{Agrees}
+use Rattle.elimination.specs.declared.NoPivot.{NoPivot}
 use Rattle.elimination.proofs.Alike.{Alike, Same, own, pivot_alike, column_alike, from_alike, unknowns_alike}
-use Rattle.elimination.specs.declared.Eliminated.TheVariants as answer
 
-pub solved : (m : Matrix) (l : List Float) (n w b : ℕ) → n ≤ w → b < w → Agrees (eliminated m n) answer.Reduced l n w → solution m n b ≡ Unknowns (unknowns (cells l w) n b)
+pub solved : (m : Matrix) (l : List Float) (n w b : ℕ) → n ≤ w → b < w → Agrees (eliminated m n) (Ok tt) l n w → solution m n b ≡ Unknowns (unknowns (cells l w) n b)
 solved m l n w b h k a = go (eliminated m n) a
   where
-    go : (e : Ended) → Agrees e answer.Reduced l n w → solved_by e n b ≡ Unknowns (unknowns (cells l w) n b)
+    go : (e : Ended) → Agrees e (Ok tt) l n w → solved_by e n b ≡ Unknowns (unknowns (cells l w) n b)
     go (Reduced g) a = ap Unknowns (sym (unknowns_alike n w own h (λ x y. refl) (λ x y. y) g (cells l w) a.held b n k (omega arith)))
     go (Stopped c) a = let z : ◌≡◌ {A = ℕ} 0 1 = cc a.told in absurd (omega arith)
 
+-- the column at which an elimination is told to have stopped; of one that went through, none matters
+abbrev stopped_at : Result Unit NoPivot → ℕ
+stopped_at (Ok tt) = 0
+stopped_at (Err e) = e.col
+
 -- an elimination that is told to have stopped: the system is singular at that column
-pub singular : (m : Matrix) (l : List Float) (n w b col : ℕ) → Agrees (eliminated m n) (answer.Stopped col) l n w → solution m n b ≡ Singular col
+pub singular : (m : Matrix) (l : List Float) (n w b col : ℕ) → Agrees (eliminated m n) (Err (record { col = col })) l n w → solution m n b ≡ Singular col
 singular m l n w b col a = go (eliminated m n) a
   where
-    go : (e : Ended) → Agrees e (answer.Stopped col) l n w → solved_by e n b ≡ Singular col
+    go : (e : Ended) → Agrees e (Err (record { col = col })) l n w → solved_by e n b ≡ Singular col
     go (Reduced g) a = let z : ◌≡◌ {A = ℕ} 0 1 = cc a.told in absurd (omega arith)
-    go (Stopped c) a = cc a.told
+    go (Stopped c) a = ap Singular (ap stopped_at (sym a.told))
 
 -- matrices whose columns are columns of another have its solutions, from any column on
 pub from_solved : (n w : ℕ) (f : ℕ → ℕ) → n ≤ w → ((c : ℕ) → c < n → f c ≡ c) → ((c : ℕ) → n ≤ c → n ≤ f c) → (m g : Matrix) → Alike n w f m g → (b k col : ℕ) → b < w → col + k ≤ n

@@ -7,18 +7,16 @@ ghost use Rattle.elimination.specs.Elimination.{eliminated, row_less, unknowns};
 ghost use Rattle.elimination.specs.Agrees.{Agrees};
 ghost use Rattle.elimination.specs.Steps.{Cleared};
 
-// How an elimination ends: with the matrix reduced, or at a column that has no pivot above the least.
-#[derive(Clone, Copy)]
-pub enum Eliminated {
-    Reduced,
-    Stopped(usize),
-}
+// A pivot is above this.
+const LEAST_PIVOT: f64 = 1e-30;
 
-impl Eliminated {
-    // A pivot is above this.
-    pub const LEAST_PIVOT: f64 = 1e-30;
-    // The longest row.
-    pub const MOST_COLUMNS: usize = 64;
+// The longest row.
+const MOST_COLUMNS: usize = 64;
+
+// The column at which an elimination stopped: it has no pivot above the least.
+#[derive(Clone, Copy)]
+pub struct NoPivot {
+    pub col: usize,
 }
 
 // One column. False: no pivot above the least.
@@ -30,7 +28,7 @@ fn clear_column(m: &mut [f64], n: usize, w: usize, col: usize, held: &mut [f64])
 {
     let pivot = elimination_rows::pivot_row(m, n, w, col);
     let row = pivot.row;
-    if !(pivot.size > Eliminated::LEAST_PIVOT) {
+    if !(pivot.size > LEAST_PIVOT) {
         return false;
     }
     elimination_rows::bring_up(m, n, w, col, row);
@@ -39,7 +37,7 @@ fn clear_column(m: &mut [f64], n: usize, w: usize, col: usize, held: &mut [f64])
 }
 
 // Reduces the matrix, one column after the other, or stops at the first that has no pivot above the least. The pivot's row is held in what is lent for it.
-pub fn eliminate_in(m: &mut [f64], n: usize, w: usize, held: &mut [f64]) -> Eliminated
+pub fn eliminate_in(m: &mut [f64], n: usize, w: usize, held: &mut [f64]) -> Result<(), NoPivot>
     requires m_len { length m.old ≡ n * w }
     requires n_le_w { n ≤ w }
     requires w_in_bounds { w ≤ length held.old }
@@ -47,19 +45,19 @@ pub fn eliminate_in(m: &mut [f64], n: usize, w: usize, held: &mut [f64]) -> Elim
 {
     for col in 0..n {
         if !clear_column(m, n, w, col, held) {
-            return Eliminated::Stopped(col);
+            return Err(NoPivot { col });
         }
     }
-    Eliminated::Reduced
+    Ok(())
 }
 
 // The same, with a row of its own for the pivot's.
-pub fn eliminate(m: &mut [f64], n: usize, w: usize) -> Eliminated
+pub fn eliminate(m: &mut [f64], n: usize, w: usize) -> Result<(), NoPivot>
     requires m_len { length m.old ≡ n * w }
     requires n_le_w { (n ≤ w) × (w ≤ 64) }
     ensures { Agrees (eliminated (cells m.old w) n) result m.new n w }
 {
-    let mut held = [0.0; Eliminated::MOST_COLUMNS];
+    let mut held = [0.0; MOST_COLUMNS];
     eliminate_in(m, n, w, &mut held)
 }
 
@@ -69,10 +67,9 @@ fn row_rest(m: &[f64], w: usize, i: usize, b: usize, x: &[f64]) -> f64
     requires w_in_bounds { i * w + w ≤ length m.now }
     ensures { result ≡ row_less (cells m.now w) i (i + 1) x.now (cells m.now w i b) }
 {
-    let n = x.len();
     let mut sum = elimination_rows::cell_at(m, w, i, b);
-    for k in 0..n {
-        sum -= elimination_rows::cell_at(m, w, i, i + 1 + k) * x[k];
+    for (k, unknown) in x.iter().enumerate() {
+        sum -= elimination_rows::cell_at(m, w, i, i + 1 + k) * unknown;
     }
     sum
 }
@@ -84,11 +81,8 @@ pub fn unknowns(m: &[f64], n: usize, w: usize, b: usize, x: &mut [f64])
     requires x_len { length x.old ≡ n }
     ensures { x.new ≡ unknowns (cells m.now w) n b }
 {
-    let mut left = n;
-    while left > 0 {
-        let i = left - 1;
-        let s = row_rest(m, w, i, b, &x[left..n]);
+    for i in (0..n).rev() {
+        let s = row_rest(m, w, i, b, &x[i + 1..n]);
         x[i] = s / elimination_rows::cell_at(m, w, i, i);
-        left = i;
     }
 }

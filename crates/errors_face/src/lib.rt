@@ -6,12 +6,11 @@ ghost use Rattle.answer.specs.Answers.{answer_number, lent_after, number_after};
 ghost use Rattle.rows.specs.Rows.{rows};
 ghost use Rattle.wcs.specs.Wcs.{wcs_in};
 ghost use Rattle.cd_residuals.specs.Residuals.{residuals_x, residuals_y, residuals_px, found_of};
-ghost use Rattle.errors_face.specs.Face.{errors_face, errors_written, residuals_face, value_after, rms_done, rms_in, rms_face, rms_value, weighted_face, weighted_value};
+ghost use Rattle.errors_face.specs.Face.{errors_face, errors_written, residuals_face, value_after, rms_done};
+ghost use Rattle.errors_face.specs.Face.{rms_in, rms_face, rms_value, weighted_face, weighted_value};
 
 use answer::Refusal;
 use cd_plate::Cd;
-use cd_residuals::Residuals;
-use cd_rms::Rms;
 use wcs::Wcs;
 
 // The error of each row in pixels under a CD of six numbers.
@@ -37,7 +36,7 @@ pub fn compute_pixel_errors(
         }
         return Refusal::Count.number();
     }
-    cd_errors::compute_pixel_errors(px, py, xi, eta, mask, Cd::of(cd), errors).number()
+    answer::number(cd_errors::compute_pixel_errors(px, py, xi, eta, mask, Cd::of(cd), errors))
 }
 
 // The residuals of rows in degrees under a WCS of six numbers, and how many they are.
@@ -78,8 +77,8 @@ pub fn compute_residuals(
         return Refusal::Count.number();
     }
     match cd_residuals::compute_residuals(px, py, xi, eta, Wcs::of(wcs), x, y, all) {
-        Residuals::Refused(why) => why.number(),
-        Residuals::Found(count) => {
+        Err(why) => why.number(),
+        Ok(count) => {
             *residuals = count as u64;
             0
         }
@@ -87,13 +86,13 @@ pub fn compute_residuals(
 }
 
 // Hands out a root mean square, where there is one.
-fn put_rms(found: Rms, rms: &mut f64) -> u32
+fn put_rms(found: Result<f64, Refusal>, rms: &mut f64) -> u32
     ensures number { result ≡ answer_number (rms_done found) }
     ensures rms { rms.new ≡ value_after (rms_done found) (rms_in found) rms.old }
 {
     match found {
-        Rms::Refused(why) => why.number(),
-        Rms::Value(value) => {
+        Err(why) => why.number(),
+        Ok(value) => {
             *rms = value;
             0
         }

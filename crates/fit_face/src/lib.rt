@@ -8,19 +8,20 @@ ghost use Rattle.cd_fit.specs.Fit.{fit_answer};
 ghost use Rattle.cd_normal.specs.Normal.{normal_solved, unknowns_of, normal_answer};
 ghost use Rattle.fit_face.specs.Face.{fit_face, fit_written, weighted_fit};
 
-use cd_fit::CdFit;
+use answer::Refusal;
+use cd_plate::Cd;
 
 // What a fit comes to in a list that may lack room.
-fn put_fit(fit: CdFit, cd: &mut [f64]) -> u32
+fn put_fit(fit: Result<Cd, Refusal>, cd: &mut [f64]) -> u32
     ensures number { result ≡ answer_number (fit_face fit (length cd.old)) }
     ensures cd { cd.new ≡ lent_after (fit_face fit (length cd.old)) (fit_written fit) cd.old }
 {
     match fit {
-        CdFit::Refused(why) => {
+        Err(why) => {
             let room = answer::room_for(6, cd.len());
-            answer::in_turn(why, room).number()
+            answer::number(answer::in_turn(why, room))
         }
-        CdFit::Plate(m) => cd_plate::put_cd(cd, m).number(),
+        Ok(m) => answer::number(cd_plate::put_cd(cd, m)),
     }
 }
 
@@ -52,7 +53,8 @@ pub fn fit_cd_weighted(
     weights: &[f64],
     cd: &mut [f64],
 ) -> u32
-    ensures number { result ≡ answer_number (fit_face (weighted_fit (rows px.now py.now xi.now eta.now) mask.now weights.now) (length cd.old)) }
+    ensures number { result ≡ answer_number
+        (fit_face (weighted_fit (rows px.now py.now xi.now eta.now) mask.now weights.now) (length cd.old)) }
     ensures cd { cd.new ≡ lent_after
         (fit_face (weighted_fit (rows px.now py.now xi.now eta.now) mask.now weights.now) (length cd.old))
         (fit_written (weighted_fit (rows px.now py.now xi.now eta.now) mask.now weights.now))
@@ -69,5 +71,5 @@ pub fn solve_normal_equations(a: &[f64], b: &[f64], n: u32, x: &mut [f64]) -> u3
         (unknowns_of (normal_solved a.now b.now n))
         x.old }
 {
-    cd_normal::solve_normal_equations(a, b, n as usize, x).number()
+    answer::number(cd_normal::solve_normal_equations(a, b, n as usize, x))
 }

@@ -38,13 +38,13 @@ pub fn ransac_fit(
         result tested.new on.new mask.new }
 {
     match cd_run::ransac_fit(px, py, xi, eta, votes, limit, trials as usize, mask) {
-        CdRun::Refused(why) => why.number(),
-        CdRun::Untested(count) => {
+        Err(why) => why.number(),
+        Ok(CdRun::Untested(count)) => {
             *tested = 0;
             *on = count as u64;
             0
         }
-        CdRun::Fitted(count) => {
+        Ok(CdRun::Fitted(count)) => {
             *tested = 1;
             *on = count as u64;
             0

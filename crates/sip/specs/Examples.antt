@@ -1,5 +1,5 @@
 -- Worked examples, each by computation.
-use Rattle.std.specs.Prelude.{◌≡◌, refl, List, [], ◌∷◌, ℕ, pos, replicate, Float}
+use Rattle.std.specs.Prelude.{◌≡◌, refl, List, [], ◌∷◌, ℕ, pos, replicate, Float, Ok, Err}
 use Rattle.std.specs.Float.{binary64}
 use Rattle.std.specs.Float.Ieee.{of_bits, of_int, add, sub, mul, div, neg, lt, le, eq}
 use Rattle.floats.specs.Magnitude.{magnitude_of}
@@ -23,7 +23,6 @@ use Rattle.sip_clip.specs.Clip.{error_of, weighed_to, rejected_to, clip_of}
 use Rattle.sip_rms.specs.Rms.{linear_to, totals_to, sip_of}
 use Rattle.sip_tests.specs.Tests.{field_answer, order_answer}
 use Rattle.sip_rounds.specs.Rounds.{Fitted, rounds_from}
-use Rattle.sip.specs.declared.SipFit.TheVariants as fit
 use Rattle.sip.specs.Call.{sip_after, sip_ended, sip_answer, sip_a, sip_b}
 
 -- a whole number as a float
@@ -61,7 +60,7 @@ unfolding count_to rounds_from solve_of ones filled kept_of entry_to offset_of d
 ended = refl
 
 -- the record of the scope: the errors go from 0.5 to 0.0
-whole : sip_answer (bent (six (f 1))) 2 3 3 ≡ fit.Fitted (record { rows_used = 6; linear_rms = half; rms = f 0; wrms = f 0 })
+whole : sip_answer (bent (six (f 1))) 2 3 3 ≡ Ok (record { rows_used = 6; linear_rms = half; rms = f 0; wrms = f 0 })
 unfolding field_answer order_answer position_rows every is_wcs is_cd count_to ones filled offset_of determinant_of term_at power_of error_of value_to linear_to totals_to sip_of magnitude_of root_of of_bits of_int add sub mul div neg lt le eq
 whole = rw ended
 
@@ -74,6 +73,6 @@ whole_b : sip_b (bent (six (f 1))) 2 ≡ f 0 ∷ f 0 ∷ f 0 ∷ []
 whole_b = rw ended
 
 -- rows without weight: the first pivot is 0.0
-weightless : sip_after (bent (six (f 0))) (sip_ended (bent (six (f 0))) 2) ≡ fit.Refused Degenerate
+weightless : sip_after (bent (six (f 0))) (sip_ended (bent (six (f 0))) 2) ≡ Err Degenerate
 unfolding count_to rounds_from solve_of ones entry_to offset_of determinant_of term_at power_of pivot_row eliminate_from magnitude_of of_bits of_int add sub mul div neg lt
 weightless = refl

@@ -2,14 +2,13 @@
 #![tactic(auto)]
 
 ghost use Rattle.std.specs.Prelude.{◌≡◌, ◌+◌, ◌*◌, ◌≤◌, length, replicate};
-ghost use Rattle.answer.specs.declared.Answer.TheVariants as answer;
 ghost use Rattle.answer.specs.Answers.{lent_after};
 ghost use Rattle.rows.specs.Rows.{rows};
 ghost use Rattle.sip_sums.specs.Field.{field};
 ghost use Rattle.sip_rounds.specs.Rounds.{rounds_of};
-ghost use Rattle.sip.specs.Call.{sip_after, coefficients_a, coefficients_b, answer_of, sip_number, sip_answer, sip_a, sip_b};
+ghost use Rattle.sip.specs.Call.{sip_after, coefficients_a, coefficients_b, answer_of, sip_answer, sip_a, sip_b};
 
-use answer::{Answer, Refusal};
+use answer::Refusal;
 use sip_terms::Sip;
 use wcs::Wcs;
 
@@ -21,25 +20,6 @@ const MOST_NUMBERS: usize = 2000;
 const MOST_POWERS: usize = 600;
 
 const MOST_TERMS: usize = 18;
-
-// What a fit comes to.
-#[derive(Clone, Copy)]
-pub enum SipFit {
-    Fitted(Sip),
-    Refused(Refusal),
-}
-
-impl SipFit {
-    // The number of the answer: 0 is done.
-    pub fn number(self) -> u32
-        ensures { result ≡ sip_number self }
-    {
-        match self {
-            SipFit::Fitted(_) => 0,
-            SipFit::Refused(why) => why.number(),
-        }
-    }
-}
 
 // The fit in n terms, by way of lent lists; every row is on.
 fn fit_lent(
@@ -58,7 +38,7 @@ fn fit_lent(
     errors: &mut [f64],
     a: &mut [f64],
     b: &mut [f64],
-) -> SipFit
+) -> Result<Sip, Refusal>
     requires py_len_1 { length py.now ≡ length px.now }
     requires py_len_2 { length xi.now ≡ length px.now }
     requires py_len_3 { length eta.now ≡ length px.now }
@@ -75,21 +55,19 @@ fn fit_lent(
     requires up_len_3 { length lines.old ≡ length px.now * (n + 2) }
     ensures answer { result ≡ sip_after (field (rows px.now py.now xi.now eta.now) snr.now wcs)
         (rounds_of (field (rows px.now py.now xi.now eta.now) snr.now wcs) n) }
-    ensures a { answer_of result ≡ answer.Done → a.new ≡ coefficients_a
+    ensures a { answer_of result ≡ Ok tt → a.new ≡ coefficients_a
         (rounds_of (field (rows px.now py.now xi.now eta.now) snr.now wcs) n) }
-    ensures b { answer_of result ≡ answer.Done → b.new ≡ coefficients_b
+    ensures b { answer_of result ≡ Ok tt → b.new ≡ coefficients_b
         (rounds_of (field (rows px.now py.now xi.now eta.now) snr.now wcs) n) }
 {
     sip_sums::put_lines(px, py, xi, eta, wcs, n, lines);
     sip_values::put_powers(px, py, xi, eta, wcs, up, vp);
     sip_clip::put_roots(snr, roots);
     let linear = sip_rms::linear_rms(px, py, xi, eta, wcs);
-    match sip_rounds::fit_rounds(
+    sip_rounds::fit_rounds(
         px, py, xi, eta, snr, wcs, lines, up, vp, n, roots, mask, errors, a, b,
-    ) {
-        Answer::Refused(why) => SipFit::Refused(why),
-        Answer::Done => SipFit::Fitted(sip_rms::sip_of(linear, snr, mask, errors)),
-    }
+    )?;
+    Ok(sip_rms::sip_of(linear, snr, mask, errors))
 }
 
 // The same with lists of its own.
@@ -103,7 +81,7 @@ fn fit_terms(
     n: usize,
     a: &mut [f64],
     b: &mut [f64],
-) -> SipFit
+) -> Result<Sip, Refusal>
     requires py_len_1 { length py.now ≡ length px.now }
     requires py_len_2 { length xi.now ≡ length px.now }
     requires py_len_3 { length eta.now ≡ length px.now }
@@ -114,9 +92,9 @@ fn fit_terms(
     requires n_bound_3 { length b.old ≡ n }
     ensures answer { result ≡ sip_after (field (rows px.now py.now xi.now eta.now) snr.now wcs)
         (rounds_of (field (rows px.now py.now xi.now eta.now) snr.now wcs) n) }
-    ensures a { answer_of result ≡ answer.Done → a.new ≡ coefficients_a
+    ensures a { answer_of result ≡ Ok tt → a.new ≡ coefficients_a
         (rounds_of (field (rows px.now py.now xi.now eta.now) snr.now wcs) n) }
-    ensures b { answer_of result ≡ answer.Done → b.new ≡ coefficients_b
+    ensures b { answer_of result ≡ Ok tt → b.new ≡ coefficients_b
         (rounds_of (field (rows px.now py.now xi.now eta.now) snr.now wcs) n) }
 {
     let count = px.len();
@@ -160,7 +138,7 @@ fn fit_into(
     y: &mut [f64],
     a: &mut [f64],
     b: &mut [f64],
-) -> SipFit
+) -> Result<Sip, Refusal>
     requires py_len_1 { length py.now ≡ length px.now }
     requires py_len_2 { length xi.now ≡ length px.now }
     requires py_len_3 { length eta.now ≡ length px.now }
@@ -178,14 +156,10 @@ fn fit_into(
     ensures b { b.new ≡ lent_after (answer_of result) (coefficients_b
         (rounds_of (field (rows px.now py.now xi.now eta.now) snr.now wcs) n)) b.old }
 {
-    match fit_terms(px, py, xi, eta, snr, wcs, n, x, y) {
-        SipFit::Refused(why) => SipFit::Refused(why),
-        SipFit::Fitted(sip) => {
-            elimination_rows::copy_row(&mut a[..n], x);
-            elimination_rows::copy_row(&mut b[..n], y);
-            SipFit::Fitted(sip)
-        }
-    }
+    let sip = fit_terms(px, py, xi, eta, snr, wcs, n, x, y)?;
+    elimination_rows::copy_row(&mut a[..n], x);
+    elimination_rows::copy_row(&mut b[..n], y);
+    Ok(sip)
 }
 
 // The fit of an input that passed its tests.
@@ -199,7 +173,7 @@ fn fit_checked(
     n: usize,
     a: &mut [f64],
     b: &mut [f64],
-) -> SipFit
+) -> Result<Sip, Refusal>
     requires py_len_1 { length py.now ≡ length px.now }
     requires py_len_2 { length xi.now ≡ length px.now }
     requires py_len_3 { length eta.now ≡ length px.now }
@@ -232,7 +206,7 @@ pub fn fit_sip(
     order: u32,
     a: &mut [f64],
     b: &mut [f64],
-) -> SipFit
+) -> Result<Sip, Refusal>
     ensures answer { result ≡ sip_answer (field (rows px.now py.now xi.now eta.now) snr.now wcs)
         order (length a.old) (length b.old) }
     ensures a { a.new ≡ lent_after (answer_of result)
@@ -240,11 +214,7 @@ pub fn fit_sip(
     ensures b { b.new ≡ lent_after (answer_of result)
         (sip_b (field (rows px.now py.now xi.now eta.now) snr.now wcs) order) b.old }
 {
-    match sip_tests::check_call(px, py, xi, eta, snr, wcs, order, a.len(), b.len()) {
-        Answer::Refused(why) => SipFit::Refused(why),
-        Answer::Done => {
-            let n = sip_terms::term_count(order);
-            fit_checked(px, py, xi, eta, snr, wcs, n, a, b)
-        }
-    }
+    sip_tests::check_call(px, py, xi, eta, snr, wcs, order, a.len(), b.len())?;
+    let n = sip_terms::term_count(order);
+    fit_checked(px, py, xi, eta, snr, wcs, n, a, b)
 }

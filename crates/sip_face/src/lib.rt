@@ -10,7 +10,7 @@ ghost use Rattle.sip.specs.Call.{answer_of, sip_answer, sip_a, sip_b};
 ghost use Rattle.sip_face.specs.Face.{used_in, sums_in, sip_told, sip_face};
 
 use answer::Refusal;
-use sip::SipFit;
+use sip_terms::Sip;
 use wcs::Wcs;
 
 // The longest list of snr.
@@ -20,15 +20,15 @@ const MOST_ROWS: usize = 100;
 const SUMS: usize = 3;
 
 // A fit into what is lent, where there is room.
-fn put_fit(fit: SipFit, rows_used: &mut u64, sums: &mut [f64]) -> u32
+fn put_fit(fit: Result<Sip, Refusal>, rows_used: &mut u64, sums: &mut [f64]) -> u32
     requires { 3 ≤ length sums.old }
     ensures number { result ≡ answer_number (answer_of fit) }
     ensures rows { rows_used.new ≡ number_after (answer_of fit) (used_in fit) rows_used.old }
     ensures sums { sums.new ≡ lent_after (answer_of fit) (sums_in fit) sums.old }
 {
     match fit {
-        SipFit::Refused(why) => why.number(),
-        SipFit::Fitted(s) => {
+        Err(why) => why.number(),
+        Ok(s) => {
             sip_terms::put_sip(s, rows_used, sums);
             0
         }
@@ -51,7 +51,7 @@ fn fit_roomless(
     ensures a { a.new ≡ a.old }
     ensures b { b.new ≡ b.old }
 {
-    sip::fit_sip(px, py, xi, eta, snr, wcs, order, &mut a[..0], b).number()
+    answer::number(sip::fit_sip(px, py, xi, eta, snr, wcs, order, &mut a[..0], b))
 }
 
 // Fits the A and B polynomials of an order under a WCS of six numbers; rows_used, and the sums

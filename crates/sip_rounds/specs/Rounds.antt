@@ -1,8 +1,6 @@
 -- The rounds of a SIP fit. Definitions only.
-use Rattle.std.specs.Prelude.{Bool, true, false, List, ℕ, zero, suc, eqb, replicate, Float}
+use Rattle.std.specs.Prelude.{Bool, true, false, List, ℕ, zero, suc, eqb, replicate, Float, Result, Ok, Err}
 use Rattle.answer.specs.declared.Refusal.{Refusal}
-use Rattle.answer.specs.declared.Answer.{Answer}
-use Rattle.answer.specs.declared.Answer.TheVariants as answer
 use Rattle.rows.specs.Rows.{count}
 use Rattle.sip_sums.specs.Field.{Field}
 use Rattle.sip_solve.specs.Solve.{Coefficients, Found, None, solve_of}
@@ -42,6 +40,6 @@ abbrev pub rounds_of : Field → ℕ → Ended
 rounds_of f n = rounds_from f n 10 (replicate (count f.rows) 1)
 
 -- an answer with a mask and two lists: the end of the rounds
-abbrev pub ended_as : Answer → List ℕ → List Float → List Float → Ended
-ended_as answer.Done mask a b = Fitted mask a b
-ended_as (answer.Refused why) mask a b = Failed why
+abbrev pub ended_as : Result Unit Refusal → List ℕ → List Float → List Float → Ended
+ended_as (Ok tt) mask a b = Fitted mask a b
+ended_as (Err why) mask a b = Failed why

@@ -2,7 +2,6 @@
 #![tactic(auto)]
 
 ghost use Rattle.std.specs.Prelude.{◌≡◌, ◌≤◌, length};
-ghost use Rattle.answer.specs.declared.Answer.TheVariants as answer;
 ghost use Rattle.rows.specs.Rows.{rows};
 ghost use Rattle.sip_sums.specs.Field.{field};
 ghost use Rattle.sip_sums.specs.Steps.{Lines};
@@ -11,7 +10,7 @@ ghost use Rattle.sip_values.specs.Values.{Powers};
 ghost use Rattle.sip_clip.specs.Clip.{errors_of, roots_of};
 ghost use Rattle.sip_rounds.specs.Rounds.{ended_as, rounds_from};
 
-use answer::Answer;
+use answer::Refusal;
 use sip_terms::Sip;
 use wcs::Wcs;
 
@@ -31,7 +30,7 @@ fn solve_errors(
     errors: &mut [f64],
     a: &mut [f64],
     b: &mut [f64],
-) -> Answer
+) -> Result<(), Refusal>
     requires py_len_1 { length py.now ≡ length px.now }
     requires py_len_2 { length xi.now ≡ length px.now }
     requires py_len_3 { length eta.now ≡ length px.now }
@@ -46,16 +45,12 @@ fn solve_errors(
     requires lines { Lines (rows px.now py.now xi.now eta.now) wcs n lines.now }
     ensures solved { coefficients_as result a.new b.new ≡ solve_of
         (field (rows px.now py.now xi.now eta.now) snr.now wcs) mask.now n }
-    ensures errors { result ≡ answer.Done → errors.new ≡ errors_of
+    ensures errors { result ≡ Ok tt → errors.new ≡ errors_of
         (rows px.now py.now xi.now eta.now) wcs mask.now a.new b.new }
 {
-    match sip_solve::solve_both(lines, snr, mask, n, a, b) {
-        Answer::Refused(why) => Answer::Refused(why),
-        Answer::Done => {
-            sip_clip::put_errors(px, py, xi, eta, wcs, mask, up, vp, a, b, errors);
-            Answer::Done
-        }
-    }
+    sip_solve::solve_both(lines, snr, mask, n, a, b)?;
+    sip_clip::put_errors(px, py, xi, eta, wcs, mask, up, vp, a, b, errors);
+    Ok(())
 }
 
 // At most ten rounds; after ten that each turned rows off one more solve of both, and no clip.
@@ -75,7 +70,7 @@ pub fn fit_rounds(
     errors: &mut [f64],
     a: &mut [f64],
     b: &mut [f64],
-) -> Answer
+) -> Result<(), Refusal>
     requires py_len_1 { length py.now ≡ length px.now }
     requires py_len_2 { length xi.now ≡ length px.now }
     requires py_len_3 { length eta.now ≡ length px.now }
@@ -91,18 +86,15 @@ pub fn fit_rounds(
     requires lines { Lines (rows px.now py.now xi.now eta.now) wcs n lines.now }
     ensures ended { ended_as result mask.new a.new b.new ≡ rounds_from
         (field (rows px.now py.now xi.now eta.now) snr.now wcs) n 10 mask.old }
-    ensures errors { result ≡ answer.Done → errors.new ≡ errors_of
+    ensures errors { result ≡ Ok tt → errors.new ≡ errors_of
         (rows px.now py.now xi.now eta.now) wcs mask.new a.new b.new }
 {
     for round in 0..Sip::ROUNDS {
-        let r = solve_errors(
+        solve_errors(
             px, py, xi, eta, snr, wcs, lines, up, vp, n, mask, errors, a, b,
-        );
-        if let Answer::Refused(why) = r {
-            return Answer::Refused(why);
-        }
+        )?;
         if sip_clip::clip(snr, roots, errors, mask) == 0 {
-            return Answer::Done;
+            return Ok(());
         }
     }
     solve_errors(

@@ -1,4 +1,5 @@
 -- One elimination of the equations of both axes is the elimination of each. Assumes nothing.
+use Rattle.std.specs.Prelude.{Result, Ok, Err}
 use mathlib.Core.Path.{◌≡◌, refl, sym, ap, subst, ◌∙◌}
 use mathlib.Core.Bool.{Bool, true, false, cond}
 use mathlib.Core.List.{List}
@@ -15,8 +16,7 @@ use Rattle.elimination_rows.specs.Matrix.{Matrix, cells}
 use Rattle.elimination_rows.specs.Holds.{Holds}
 use Rattle.elimination.specs.Elimination.{eliminated, unknowns, Solved, solution}
 use Rattle.elimination.specs.Agrees.{Agrees}
-use Rattle.elimination.specs.declared.Eliminated.{Eliminated}
-use Rattle.elimination.specs.declared.Eliminated.TheVariants as ended
+use Rattle.elimination.specs.declared.NoPivot.{NoPivot}
 use Rattle.elimination.proofs.Alike.{Alike}
 use Rattle.elimination.proofs.Solved.{solved, singular, solution_alike, solution_held}
 use Rattle.sip_terms.specs.Terms.{basis_of}
@@ -78,19 +78,19 @@ module _ (m : Matrix) (n : ℕ) (mid l : List Float) (held : Holds mid n (n + 2)
   side_held : (b : ℕ) → b < n + 2 → solution m n b ≡ solution (cells mid (n + 2)) n b
   side_held b k = sym (solution_held m mid n (n + 2) b (omega arith) k held)
 
-  told_end : (r q : Eliminated) → r ≡ q → Agrees (eliminated (cells mid (n + 2)) n) r l n (n + 2) → Agrees (eliminated (cells mid (n + 2)) n) q l n (n + 2)
-  told_end r q e a = subst (λ (x : Eliminated). Agrees (eliminated (cells mid (n + 2)) n) x l n (n + 2)) e a
+  told_end : (r q : Result Unit NoPivot) → r ≡ q → Agrees (eliminated (cells mid (n + 2)) n) r l n (n + 2) → Agrees (eliminated (cells mid (n + 2)) n) q l n (n + 2)
+  told_end r q e a = subst (λ (x : Result Unit NoPivot). Agrees (eliminated (cells mid (n + 2)) n) x l n (n + 2)) e a
 
   -- where the elimination is done, both axes have the unknowns of their right sides
-  pub axes_solved : (r : Eliminated) → r ≡ ended.Reduced → Agrees (eliminated (cells mid (n + 2)) n) r l n (n + 2)
+  pub axes_solved : (r : Result Unit NoPivot) → r ≡ Ok tt → Agrees (eliminated (cells mid (n + 2)) n) r l n (n + 2)
       → both_sides m n ≡ Found (kept_all (unknowns (cells l (n + 2)) n n)) (kept_all (unknowns (cells l (n + 2)) n (n + 1)))
   axes_solved r h a =
-      let e = told_end r ended.Reduced h a in
+      let e = told_end r (Ok tt) h a in
       same_axes (side_held n (omega arith) ∙ solved (cells mid (n + 2)) l n (n + 2) n (omega arith) (omega arith) e)
       (side_held (n + 1) (omega arith) ∙ solved (cells mid (n + 2)) l n (n + 2) (n + 1) (omega arith) (omega arith) e)
 
   -- where it stops, neither has any
-  pub axes_stopped : (r : Eliminated) (col : ℕ) → r ≡ ended.Stopped col → Agrees (eliminated (cells mid (n + 2)) n) r l n (n + 2) → both_sides m n ≡ None refusal.Degenerate
+  pub axes_stopped : (r : Result Unit NoPivot) (col : ℕ) → r ≡ Err (record { col = col }) → Agrees (eliminated (cells mid (n + 2)) n) r l n (n + 2) → both_sides m n ≡ None refusal.Degenerate
   axes_stopped r col h a =
-      let e = told_end r (ended.Stopped col) h a in
+      let e = told_end r (Err (record { col = col })) h a in
       same_axes (side_held n (omega arith) ∙ singular (cells mid (n + 2)) l n (n + 2) n col e) (side_held (n + 1) (omega arith) ∙ singular (cells mid (n + 2)) l n (n + 2) (n + 1) col e)

@@ -1,10 +1,8 @@
 -- Both solves of a SIP fit over the rows that are on. Definitions only.
-use Rattle.std.specs.Prelude.{Bool, true, false, List, ℕ, ltb, length, get_or, Float}
+use Rattle.std.specs.Prelude.{Bool, true, false, List, ℕ, ltb, length, get_or, Float, Result, Ok, Err}
 use Rattle.std.specs.Float.{nan}
 use Rattle.answer.specs.declared.Refusal.{Refusal}
 use Rattle.answer.specs.declared.Refusal.TheVariants as refusal
-use Rattle.answer.specs.declared.Answer.{Answer}
-use Rattle.answer.specs.declared.Answer.TheVariants as answer
 use Rattle.cd_mask.specs.Marks.{ones}
 use Rattle.cd_plate.specs.Filled.{filled}
 use Rattle.elimination.specs.Elimination.{Solved, Unknowns, Singular, solution}
@@ -46,6 +44,6 @@ unfoldable pub solve_of : Field → List ℕ → ℕ → Coefficients
 solve_of f mask n = pick_coefficients (ltb (ones mask) n) (None refusal.Rows) (both_axes (axis_of f mask x_of n) (axis_of f mask y_of n))
 
 -- an answer with two lists: their coefficients where it is done
-abbrev pub coefficients_as : Answer → List Float → List Float → Coefficients
-coefficients_as answer.Done a b = Found a b
-coefficients_as (answer.Refused why) a b = None why
+abbrev pub coefficients_as : Result Unit Refusal → List Float → List Float → Coefficients
+coefficients_as (Ok tt) a b = Found a b
+coefficients_as (Err why) a b = None why

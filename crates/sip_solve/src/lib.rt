@@ -9,8 +9,7 @@ ghost use Rattle.sip_sums.specs.Steps.{sums_in};
 ghost use Rattle.sip_solve.specs.Solve.{kept_all, coefficients_as};
 ghost use Rattle.sip_solve.specs.Steps.{both_sides, solve_in};
 
-use answer::{Answer, Refusal};
-use elimination::Eliminated;
+use answer::Refusal;
 
 // The numbers of a matrix with the most terms.
 const MOST_NUMBERS: usize = 360;
@@ -19,9 +18,8 @@ const MOST_NUMBERS: usize = 360;
 fn keep_all(x: &mut [f64])
     ensures { x.new ≡ kept_all x.old }
 {
-    let n = x.len();
-    for k in 0..n {
-        x[k] = sip_terms::keep(x[k]);
+    for c in x {
+        *c = sip_terms::keep(*c);
     }
 }
 
@@ -45,7 +43,7 @@ fn solve_in(
     m: &mut [f64],
     a: &mut [f64],
     b: &mut [f64],
-) -> Answer
+) -> Result<(), Refusal>
     requires mask_len_1 { length mask.now ≡ length snr.now }
     requires mask_len_2 { length lines.now ≡ length snr.now * (n + 2) }
     requires n_bound { n ≤ 18 }
@@ -58,11 +56,11 @@ fn solve_in(
     let w = n + 2;
     sip_sums::put_sums(lines, snr, mask, n, m);
     match elimination::eliminate(m, n, w) {
-        Eliminated::Stopped(_) => Answer::Refused(Refusal::Degenerate),
-        Eliminated::Reduced => {
+        Err(_) => Err(Refusal::Degenerate),
+        Ok(()) => {
             put_coefficients(m, n, w, n, a);
             put_coefficients(m, n, w, n + 1, b);
-            Answer::Done
+            Ok(())
         }
     }
 }
@@ -75,7 +73,7 @@ pub fn solve_both(
     n: usize,
     a: &mut [f64],
     b: &mut [f64],
-) -> Answer
+) -> Result<(), Refusal>
     requires mask_len_1 { length mask.now ≡ length snr.now }
     requires mask_len_2 { length lines.now ≡ length snr.now * (n + 2) }
     requires n_bound { n ≤ 18 }
@@ -84,7 +82,7 @@ pub fn solve_both(
     ensures { coefficients_as result a.new b.new ≡ solve_in (cells lines.now (n + 2)) snr.now mask.now n }
 {
     if cd_mask::count_on(mask) < n {
-        return Answer::Refused(Refusal::Rows);
+        return Err(Refusal::Rows);
     }
     let size = n * (n + 2);
     let mut m = [0.0; MOST_NUMBERS];

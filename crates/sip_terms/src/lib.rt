@@ -97,12 +97,9 @@ pub fn term_count(order: u32) -> usize
     requires { (2 ≤ order) × (order ≤ 9) }
     ensures { result ≡ term_count order }
 {
-    let last = order as usize;
     let mut n = 0usize;
-    let mut total = 2usize;
-    while total <= last {
+    for total in 2..=order as usize {
         n += total + 1;
-        total += 1;
     }
     n
 }
@@ -113,24 +110,24 @@ pub fn put_powers(x: f64, out: &mut [f64])
     ensures { out.new ≡ powers_of x }
 {
     let mut r = 1.0;
-    for k in 0..POWERS {
-        out[k] = r;
+    for power in out {
+        *power = r;
         r = r * x;
     }
 }
 
 // u^p v^q of each term, from the powers of u and v.
+#[tactic(auto, using(crate::proofs::Places::low_term))]
 pub fn put_basis(up: &[f64], vp: &[f64], out: &mut [f64])
     requires up_len { (length up.now ≡ 6) × (length vp.now ≡ 6) }
     requires out_len_bound { length out.old ≤ 18 }
     ensures { out.new ≡ filled (basis_in up.now vp.now) (length out.old) }
 {
-    let n = out.len();
     let mut t = Term::first();
-    for i in 0..n {
+    for number in out {
         let p = t.p;
         let q = t.q;
-        out[i] = up[p] * vp[q];
+        *number = up[p] * vp[q];
         t = t.next();
     }
 }

@@ -1,4 +1,5 @@
 -- What an input is like that passed its tests. Assumes nothing.
+use Rattle.std.specs.Prelude.{Ok}
 use mathlib.Core.Path.{◌≡◌}
 use mathlib.Core.Bool.{false, not, ◌&&◌, ◌||◌, and-eq-true_iff}
 use Prim.Native.Nat.{ℕ, ◌≤◌}
@@ -6,7 +7,6 @@ use lib.Dec.{ltb, leb, eqb}
 use lib.ListN.{length}
 use borrow.Author.Tests.{leb-true, eqb-true, ltb-false, not-false}
 use Rattle.answer.proofs.Passed.{passed, both, neither}
-use Rattle.answer.specs.declared.Answer.TheVariants as answer
 use Rattle.rows.specs.Rows.{count, few_rows, even_rows}
 use Rattle.wcs.specs.declared.Wcs.{Wcs}
 use Rattle.sip_terms.specs.Terms.{term_count}
@@ -21,7 +21,7 @@ pub record Even (f : Field) : Type 0 where
   pub eta_long : length f.rows.eta ≡ count f.rows
   pub snr_long : length f.snr ≡ count f.rows
 
-even : (f : Field) → field_answer f ≡ answer.Done → Even f
+even : (f : Field) → field_answer f ≡ Ok tt → Even f
 unfolding field_answer
 even f e =
     let p = passed (not (few_field f)) _ _ e in
@@ -50,7 +50,7 @@ pub record Roomy (order a b : ℕ) : Type 0 where
   pub room_a : term_count order ≤ a
   pub room_b : term_count order ≤ b
 
-roomy : (rows : ℕ) (w : Wcs) (order a b : ℕ) → order_answer rows w order a b ≡ answer.Done → Roomy order a b
+roomy : (rows : ℕ) (w : Wcs) (order a b : ℕ) → order_answer rows w order a b ≡ Ok tt → Roomy order a b
 unfolding order_answer
 roomy rows w order a b e =
     let p = passed (no_order order) _ _ e in
@@ -60,7 +60,7 @@ roomy rows w order a b e =
     let n = neither (ltb a (term_count order)) (ltb b (term_count order)) r.0 in
     record { least = o.0; most = o.1; room_a = ltb-false a (term_count order) n.0; room_b = ltb-false b (term_count order) n.1 }
 
-module _ (f : Field) (order a b : ℕ) (e : tests_answer f order a b ≡ answer.Done) where
+module _ (f : Field) (order a b : ℕ) (e : tests_answer f order a b ≡ Ok tt) where
   pub tested_field : Even f
   tested_field = even f (both (field_answer f) (order_answer (count f.rows) f.wcs order a b) e).0
 

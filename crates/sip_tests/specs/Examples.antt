@@ -1,11 +1,10 @@
 -- Worked examples, each by computation.
-use Rattle.std.specs.Prelude.{◌≡◌, refl, List, [], ◌∷◌, ℕ, pos, replicate, Float}
+use Rattle.std.specs.Prelude.{◌≡◌, refl, List, [], ◌∷◌, ℕ, pos, replicate, Float, Ok, Err}
 use Rattle.std.specs.Float.{binary64}
 use Rattle.std.specs.Float.Ieee.{of_bits, of_int, sub, mul, neg, lt, le, eq}
 use Rattle.floats.specs.Magnitude.{magnitude_of}
 use Rattle.domain.specs.Domain.{every}
 use Rattle.answer.specs.declared.Refusal.TheVariants.{Count, Lengths, Value, Order, Rows, Room, Degenerate}
-use Rattle.answer.specs.declared.Answer.TheVariants.{Done, Refused}
 use Rattle.rows.specs.Rows.{rows, position_rows}
 use Rattle.cd_plate.specs.Plate.{determinant_of, is_cd}
 use Rattle.wcs.specs.declared.Wcs.{Wcs}
@@ -48,41 +47,41 @@ bent w snr =
     field (rows (f 1 ∷ m 1 ∷ f 1 ∷ m 1 ∷ f 1 ∷ m 1 ∷ []) (f 0 ∷ f 0 ∷ f 1 ∷ f 1 ∷ m 1 ∷ m 1 ∷ []) (half ∷ past ∷ half ∷ past ∷ half ∷ past ∷ []) (f 0 ∷ f 0 ∷ f 1 ∷ f 1 ∷ m 1 ∷ m 1 ∷ [])) snr w
 
 -- the refusals in their order, each of an input that later tests would refuse too: 101 snr
-too_many : tests_answer (bent flat (replicate 101 (m 1))) 6 0 0 ≡ Refused Count
+too_many : tests_answer (bent flat (replicate 101 (m 1))) 6 0 0 ≡ Err Count
 unfolding field_answer
 too_many = refl
 
 -- one snr for six rows
-unlike_lengths : tests_answer (bent flat (m 1 ∷ [])) 6 0 0 ≡ Refused Lengths
+unlike_lengths : tests_answer (bent flat (m 1 ∷ [])) 6 0 0 ≡ Err Lengths
 unfolding field_answer
 unlike_lengths = refl
 
 -- an snr below zero
-below_zero : tests_answer (bent flat (six (m 1))) 6 0 0 ≡ Refused Value
+below_zero : tests_answer (bent flat (six (m 1))) 6 0 0 ≡ Err Value
 unfolding field_answer position_rows every is_wcs is_cd of_bits of_int neg lt le eq
 below_zero = refl
 
 -- an order of 6
-no_order : tests_answer (bent flat (six (f 1))) 6 0 0 ≡ Refused Order
+no_order : tests_answer (bent flat (six (f 1))) 6 0 0 ≡ Err Order
 unfolding field_answer order_answer position_rows every is_wcs is_cd of_bits of_int neg lt le eq
 no_order = refl
 
 -- seven terms, six rows
-few_rows_lem : tests_answer (bent flat (six (f 1))) 3 0 0 ≡ Refused Rows
+few_rows_lem : tests_answer (bent flat (six (f 1))) 3 0 0 ≡ Err Rows
 unfolding field_answer order_answer position_rows every is_wcs is_cd count_to of_bits of_int neg lt le eq
 few_rows_lem = refl
 
 -- two places for three terms
-no_room : tests_answer (bent flat (six (f 1))) 2 3 2 ≡ Refused Room
+no_room : tests_answer (bent flat (six (f 1))) 2 3 2 ≡ Err Room
 unfolding field_answer order_answer position_rows every is_wcs is_cd count_to of_bits of_int neg lt le eq
 no_room = refl
 
 -- a determinant of 0.0
-no_determinant : tests_answer (bent flat (six (f 1))) 2 3 3 ≡ Refused Degenerate
+no_determinant : tests_answer (bent flat (six (f 1))) 2 3 3 ≡ Err Degenerate
 unfolding field_answer order_answer position_rows every is_wcs is_cd count_to determinant_of magnitude_of of_bits of_int sub mul neg lt le eq
 no_determinant = refl
 
 -- and one that passes
-passes : tests_answer (bent unit (six (f 1))) 2 3 3 ≡ Done
+passes : tests_answer (bent unit (six (f 1))) 2 3 3 ≡ Ok tt
 unfolding field_answer order_answer position_rows every is_wcs is_cd count_to determinant_of magnitude_of of_bits of_int sub mul neg lt le eq
 passes = refl

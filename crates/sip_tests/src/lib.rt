@@ -6,7 +6,7 @@ ghost use Rattle.rows.specs.Rows.{rows};
 ghost use Rattle.sip_sums.specs.Field.{field};
 ghost use Rattle.sip_tests.specs.Tests.{field_answer, order_answer, tests_answer};
 
-use answer::{Answer, Refusal};
+use answer::Refusal;
 use cd_plate::Cd;
 use sip_terms::Sip;
 use wcs::Wcs;
@@ -15,40 +15,47 @@ use wcs::Wcs;
 const MOST_ROWS: usize = 100;
 
 // The tests of the lists and of the WCS, in their order.
-fn check_field(px: &[f64], py: &[f64], xi: &[f64], eta: &[f64], snr: &[f64], wcs: Wcs) -> Answer
+fn check_field(
+    px: &[f64],
+    py: &[f64],
+    xi: &[f64],
+    eta: &[f64],
+    snr: &[f64],
+    wcs: Wcs,
+) -> Result<(), Refusal>
     ensures { result ≡ field_answer (field (rows px.now py.now xi.now eta.now) snr.now wcs) }
 {
     if !(rows::few_rows(px, py, xi, eta) & (snr.len() <= MOST_ROWS)) {
-        return Answer::Refused(Refusal::Count);
+        return Err(Refusal::Count);
     }
     if !(rows::even_rows(px, py, xi, eta) & (snr.len() == px.len())) {
-        return Answer::Refused(Refusal::Lengths);
+        return Err(Refusal::Lengths);
     }
     let numbers = rows::position_rows(px, py, xi, eta) & domain::all_snrs(snr);
     if !(numbers & wcs.is_taken()) {
-        return Answer::Refused(Refusal::Value);
+        return Err(Refusal::Value);
     }
-    Answer::Done
+    Ok(())
 }
 
 // The tests that follow, of so many rows and places: the order, the rows, the room, the given factors.
-fn check_order(count: usize, wcs: Wcs, order: u32, a: usize, b: usize) -> Answer
+fn check_order(count: usize, wcs: Wcs, order: u32, a: usize, b: usize) -> Result<(), Refusal>
     ensures { result ≡ order_answer count wcs order a b }
 {
     if (order < Sip::LEAST_ORDER) | (Sip::MOST_ORDER < order) {
-        return Answer::Refused(Refusal::Order);
+        return Err(Refusal::Order);
     }
     let n = sip_terms::term_count(order);
     if (count < Sip::LEAST_ROWS) | (count < n) {
-        return Answer::Refused(Refusal::Rows);
+        return Err(Refusal::Rows);
     }
     if (a < n) | (b < n) {
-        return Answer::Refused(Refusal::Room);
+        return Err(Refusal::Room);
     }
     if floats::magnitude(wcs.plate().determinant()) > Cd::LEAST_DETERMINANT {
-        return Answer::Done;
+        return Ok(());
     }
-    Answer::Refused(Refusal::Degenerate)
+    Err(Refusal::Degenerate)
 }
 
 // All tests before the fit, in their order.
@@ -62,11 +69,9 @@ pub fn check_call(
     order: u32,
     a: usize,
     b: usize,
-) -> Answer
+) -> Result<(), Refusal>
     ensures { result ≡ tests_answer (field (rows px.now py.now xi.now eta.now) snr.now wcs) order a b }
 {
-    match check_field(px, py, xi, eta, snr, wcs) {
-        Answer::Refused(why) => Answer::Refused(why),
-        Answer::Done => check_order(px.len(), wcs, order, a, b),
-    }
+    check_field(px, py, xi, eta, snr, wcs)?;
+    check_order(px.len(), wcs, order, a, b)
 }

@@ -84,6 +84,7 @@ fn add_term(c: f64, t: Term, up: &[f64], vp: &[f64], s: &mut [f64])
 }
 
 // The polynomial at every row, from 0.0 in the order of the terms.
+#[tactic(auto, using(sip_terms::proofs::Places::low_term))]
 pub fn put_values(cs: &[f64], up: &[f64], vp: &[f64], s: &mut [f64])
     requires cs_len_bound { (length cs.now ≤ 18) × (length s.old ≤ 100) }
     requires up_len_1 { length up.now ≡ 6 * length s.old }
@@ -93,10 +94,9 @@ pub fn put_values(cs: &[f64], up: &[f64], vp: &[f64], s: &mut [f64])
         (value_in cs.now (cells up.now (length s.old)) (cells vp.now (length s.old)) (length cs.now))
         (length s.old) }
 {
-    let n = cs.len();
     let mut t = Term::first();
-    for i in 0..n {
-        add_term(cs[i], t, up, vp, s);
+    for c in cs {
+        add_term(*c, t, up, vp, s);
         t = t.next();
     }
 }

@@ -155,7 +155,7 @@ rounds-smaller c = omega (arith, c.rounds-test.true)
 
 pub rounds-preserved : goal.rounds-preserved
 rounds-preserved c = let r = (goal.at.rounds-preserved c).In-rounds in (
-  sym (goes_on _ _ _ _ (to-come r) (parts_of (mask_long r) (errors-long r) c.inverse-v.ensures c.requires.fact_2 c.of-clip.ensures c.loop-i.invariant.0 (omega (arith, c.loop-i-test.false, c.loop-i.invariant.1)) c.loop-i-2.invariant.0 (omega (arith, c.loop-i-2-test.false, c.loop-i-2.invariant.1))) c.if-on-lt-LEAST_ROWS.false (not-false c.loop-i-2.any (ap not c.if-not-any.false)) c.if-left-lt-LEAST_ROWS.false _ (sym c.refit.ensures ∙ c.in-Plate.is)) ∙ turn r,
+  sym (goes_on _ _ _ _ (to-come r) (parts_of (mask_long r) (errors-long r) c.inverse-v.ensures c.requires.fact_2 c.of-clip.ensures c.loop-i.invariant.0 (omega (arith, c.loop-i-test.false, c.loop-i.invariant.1)) c.loop-i-2.invariant.0 (omega (arith, c.loop-i-2-test.false, c.loop-i-2.invariant.1))) c.if-on-lt-LEAST_ROWS.false (not-false c.loop-i-2.any (ap not c.if-not-any.false)) c.if-left-lt-LEAST_ROWS.false _ (sym c.refit.ensures ∙ c.in-Ok.is)) ∙ turn r,
   omega (arith, c.rounds-test.true),
   c.loop-i-2.invariant.0.front.long ∙ mask_long r,
   c.loop-i.invariant.0.front.long ∙ errors-long r,

@@ -5,10 +5,7 @@ use Rattle.cd_errors.proofs.compute_pixel_errors.Goals as goal
 
 pub put_errors-requires : goal.put_errors-requires
 put_errors-requires c =
-    let k = checked _ _ _ _ (sym c.check_errors.ensures ∙ c.in-Done.is) in record { fact_1 = k.0.py_long; fact_2 = k.0.xi_long; fact_3 = k.0.eta_long; fact_4 = k.0.mask_long; fact_5 = k.1 }
+    let k = checked _ _ _ _ (sym c.check_errors.ensures ∙ c.in_ok-check_errors.was) in record { fact_1 = k.0.py_long; fact_2 = k.0.xi_long; fact_3 = k.0.eta_long; fact_4 = k.0.mask_long; fact_5 = k.1 }
 
-pub returns-in-Refused : goal.returns-in-Refused
-returns-in-Refused c = rw (← c.check_errors.ensures, c.in-Refused.is) (record { answer = refl; errors = refl })
-
-pub returns-in-Done : goal.returns-in-Done
-returns-in-Done c = rw (← c.check_errors.ensures, c.in-Done.is, ← c.inverse.ensures) (record { answer = refl; errors = c.put_errors.ensures })
+pub returns : goal.returns
+returns c = rw (← c.check_errors.ensures, c.in_ok-check_errors.was, ← c.inverse.ensures) (record { answer = refl; errors = c.put_errors.ensures })

@@ -6,10 +6,7 @@ use Rattle.cd_fit.proofs.fit_cd_weighted.Goals as goal
 
 pub sum_weighted-requires : goal.sum_weighted-requires
 sum_weighted-requires c =
-    let k = weighed _ _ _ (sym c.check_weighed.ensures ∙ c.in-Done.is) in record { fact_1 = k.0.py_long; fact_2 = k.0.xi_long; fact_3 = k.0.eta_long; fact_4 = k.0.mask_long; fact_5 = k.1 }
+    let k = weighed _ _ _ (sym c.check_weighed.ensures ∙ c.in_ok-check_weighed.was) in record { fact_1 = k.0.py_long; fact_2 = k.0.xi_long; fact_3 = k.0.eta_long; fact_4 = k.0.mask_long; fact_5 = k.1 }
 
-pub returns-in-Refused : goal.returns-in-Refused
-returns-in-Refused c = rw (← c.check_weighed.ensures, c.in-Refused.is)
-
-pub returns-in-Done : goal.returns-in-Done
-returns-in-Done c = rw (← c.check_weighed.ensures, c.in-Done.is) (c.solve_both.ensures ∙ fit_both c.sum_weighted.ensures)
+pub returns : goal.returns
+returns c = rw (← c.check_weighed.ensures, c.in_ok-check_weighed.was) (c.solve_both.ensures ∙ fit_both c.sum_weighted.ensures)

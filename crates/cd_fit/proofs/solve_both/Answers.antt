@@ -3,8 +3,8 @@ use Rattle.cd_fit.proofs.Axes.{fit_solved, fit_stopped}
 use mathlib.Core.Path.{◌∙◌, sym}
 use Rattle.cd_fit.proofs.solve_both.Goals as goal
 
-pub returns-in-Stopped : goal.returns-in-Stopped
-returns-in-Stopped c = sym (fit_stopped c.args.s _ _ _ c.in-Stopped.is c.eliminate_in.ensures)
+pub returns-in-Err : goal.returns-in-Err
+returns-in-Err c = sym (fit_stopped c.args.s _ _ _ c.in-Err.is c.eliminate_in.ensures)
 
-pub returns-in-Reduced : goal.returns-in-Reduced
-returns-in-Reduced c = c.plate_of.ensures ∙ sym (fit_solved c.args.s _ _ c.in-Reduced.is c.eliminate_in.ensures)
+pub returns-in-Ok : goal.returns-in-Ok
+returns-in-Ok c = c.plate_of.ensures ∙ sym (fit_solved c.args.s _ _ c.in-Ok.is c.eliminate_in.ensures)

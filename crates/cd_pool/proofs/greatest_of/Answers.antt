@@ -2,18 +2,17 @@
 use mathlib.Core.Path.{ap}
 use native.Mathlib.Omega.{arith}
 use lib.ListN.{drop_of_length-le}
-use borrow.Author.Rules.{rules}
 use Rattle.cd_pool.specs.Pool.{greatest}
 use Rattle.cd_pool.proofs.Pools.{greatest_at}
 use Rattle.cd_pool.proofs.greatest_of.Goals as goal
 
-pub loop-i-preserved : goal.loop-i-preserved
-loop-i-preserved c =
+pub loop-vote-preserved : goal.loop-vote-preserved
+loop-vote-preserved c =
     let vs = c.args.votes.now in
-    (search rules, search rules, omega (arith, greatest_at vs c.loop-i.i (omega arith)))
+    omega (arith, greatest_at vs c.loop-vote.vote-index (omega arith))
 
 pub returns : goal.returns
 unfolding greatest
 returns c =
     let vs = c.args.votes.now in
-    omega (arith, ap greatest (drop_of_length-le vs {i = c.loop-i.i} (omega arith)))
+    omega (arith, ap greatest (drop_of_length-le vs {i = c.loop-vote.vote-index} (omega arith)))

@@ -9,5 +9,5 @@ use Rattle.cd_pool.proofs.pool_of.Given as goal
 
 abbrev pub invariant-loop-i : goal.invariant-loop-i
 invariant-loop-i l =
-    (l.i-end ≡ length l.votes) × (l.i ≤ l.i-end) × (l.count ≤ l.i) × (length l.places ≡ 100)
+    (l.count ≤ l.i) × (length l.places ≡ 100)
     × (take l.count l.places ++ rest l.least l.rows l.votes l.i ≡ places_from l.least l.rows 0 l.votes)

@@ -5,11 +5,8 @@ use Rattle.cd_residuals.proofs.compute_residuals.Goals as goal
 
 pub write_residuals-requires : goal.write_residuals-requires
 write_residuals-requires c =
-    let k = checked _ _ (sym c.check_input.ensures ∙ c.in-Done.is) in record { fact_1 = k.py_long; fact_2 = k.xi_long; fact_3 = k.eta_long }
+    let k = checked _ _ (sym c.check_input.ensures ∙ c.in_ok-check_input.was) in record { fact_1 = k.py_long; fact_2 = k.xi_long; fact_3 = k.eta_long }
 
-pub returns-in-Refused : goal.returns-in-Refused
-returns-in-Refused c = rw (← c.check_input.ensures, c.in-Refused.is) (record { answer = refl; x = refl; y = refl; px = refl })
-
-pub returns-in-Done : goal.returns-in-Done
-returns-in-Done c =
-    let w = c.write_residuals.ensures in rw (← c.check_input.ensures, c.in-Done.is) (record { answer = w.0; x = w.1; y = w.2; px = w.3 })
+pub returns : goal.returns
+returns c =
+    let w = c.write_residuals.ensures in rw (← c.check_input.ensures, c.in_ok-check_input.was) (record { answer = w.0; x = w.1; y = w.2; px = w.3 })

@@ -6,12 +6,9 @@ use Rattle.cd_residuals.proofs.write_residuals.Goals as goal
 
 pub put_residuals-requires : goal.put_residuals-requires
 put_residuals-requires c =
-    let k = room _ _ _ _ (sym c.room_of.ensures ∙ c.in-Done.is) in record { py_len_1 = search rules; py_len_2 = search rules; py_len_3 = search rules; n_in_bounds_1 = rw c.found_of-n.ensures (found_most _ _); n_in_bounds_2 = k.in_x; n_in_bounds_3 = k.in_y; n_in_bounds_4 = k.in_px }
+    let k = room _ _ _ _ (sym c.room_of.ensures ∙ c.in_ok-room_of.was) in record { py_len_1 = search rules; py_len_2 = search rules; py_len_3 = search rules; n_in_bounds_1 = rw c.found_of-n.ensures (found_most _ _); n_in_bounds_2 = k.in_x; n_in_bounds_3 = k.in_y; n_in_bounds_4 = k.in_px }
 
-pub returns-in-Refused : goal.returns-in-Refused
-returns-in-Refused c = rw (← c.found_of-n.ensures, ← c.room_of.ensures, c.in-Refused.is) (refl, refl, refl, refl)
-
-pub returns-in-Done : goal.returns-in-Done
-returns-in-Done c =
+pub returns : goal.returns
+returns c =
     let p = c.put_residuals.ensures in
-    rw (← c.found_of-n.ensures, ← c.room_of.ensures, c.in-Done.is, ← c.plate.ensures, ← c.inverse-v.ensures) (refl, p.0, p.1, p.2)
+    rw (← c.found_of-n.ensures, ← c.room_of.ensures, c.in_ok-room_of.was, ← c.plate.ensures, ← c.inverse-v.ensures) (refl, p.0, p.1, p.2)

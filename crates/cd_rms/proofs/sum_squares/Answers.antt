@@ -7,15 +7,15 @@ use native.Mathlib.Numerals.{add-one}
 use mathlib.Core.Path.{◌≡◌}
 use Rattle.cd_rms.proofs.sum_squares.Goals as goal
 
-pub loop-i-init : goal.loop-i-init
+pub loop-e-init : goal.loop-e-init
 unfolding squares_to
-loop-i-init c = search rules
+loop-e-init c = search rules
 
-pub loop-i-preserved : goal.loop-i-preserved
+pub loop-e-preserved : goal.loop-e-preserved
 unfolding squares_to
-loop-i-preserved c = (rw (add-one c.loop-i.i, ← c.loop-i.invariant.0), search rules, search rules)
+loop-e-preserved c = rw (add-one c.loop-e.e-index, ← c.loop-e.invariant)
 
 pub returns : goal.returns
 returns c =
-    let e : c.loop-i.i ≡ length c.args.errors.now = omega arith in
-    rw (← e) c.loop-i.invariant.0
+    let e : c.loop-e.e-index ≡ length c.args.errors.now = omega arith in
+    rw (← e) c.loop-e.invariant

@@ -1,4 +1,5 @@
 -- `cd_run::run_pool` meets its contract: each return has its end, and a refusal keeps the mask. Assumes nothing.
+use Rattle.std.specs.Prelude.{Ok}
 use lib.ListN.{length}
 use Prim.Native.Nat.{◌≤◌, ◌<◌}
 use Rattle.cd_run.proofs.Ending.{ended, small_pool, none_held, few_held, three_held, held_on}
@@ -33,14 +34,14 @@ search-held-requires c = record { py_len_1 = c.requires.py_len_1; py_len_2 = c.r
 pub returns-then-on-lt-LEAST_ROWS : goal.returns-then-on-lt-LEAST_ROWS
 returns-then-on-lt-LEAST_ROWS c =
     let p : 3 ≤ length c.args.pool.now = omega (arith, c.if-pool-lt-LEAST_ROWS.false) in
-    let few : c.search-held.result.on < 3 = omega (arith, c.if-on-lt-LEAST_ROWS.true) in let it = ended _ _ _ _ _ _ _ (few_held _ _ _ _ c.search-held.result (held (goal.at.returns-then-on-lt-LEAST_ROWS c).After-search-held) p _ (ap model_of c.in-Plate.is) few) refl refl in record { answer = it.0; mask = it.1 }
+    let few : c.search-held.result.on < 3 = omega (arith, c.if-on-lt-LEAST_ROWS.true) in let it = ended _ _ _ _ _ _ _ (few_held _ _ _ _ c.search-held.result (held (goal.at.returns-then-on-lt-LEAST_ROWS c).After-search-held) p _ (ap model_of c.in-Ok.is) few) refl refl in record { answer = it.0; mask = it.1 }
 
 pub mark_near-requires : goal.mark_near-requires
 mark_near-requires c = record { fact_1 = c.requires.py_len_1; fact_2 = c.requires.py_len_2; fact_3 = c.requires.py_len_3; fact_4 = c.requires.px_len_bound_2; fact_5 = c.of-reach.ensures.1 }
 
-pub returns-in-Refused : goal.returns-in-Refused
-returns-in-Refused c =
-    let p : 3 ≤ length c.args.pool.now = omega (arith, c.if-pool-lt-LEAST_ROWS.false) in let it = ended _ _ _ _ _ _ _ (none_held _ _ _ _ c.search-held.result (held (goal.at.returns-in-Refused c).After-search-held) p (ap model_of c.in-Refused.is)) refl refl in record { answer = it.0; mask = it.1 }
+pub returns-in-Err : goal.returns-in-Err
+returns-in-Err c =
+    let p : 3 ≤ length c.args.pool.now = omega (arith, c.if-pool-lt-LEAST_ROWS.false) in let it = ended _ _ _ _ _ _ _ (none_held _ _ _ _ c.search-held.result (held (goal.at.returns-in-Err c).After-search-held) p (ap model_of c.in-Err.is)) refl refl in record { answer = it.0; mask = it.1 }
 
 pub returns-else-on-lt-LEAST_ROWS : goal.returns-else-on-lt-LEAST_ROWS
 returns-else-on-lt-LEAST_ROWS c =
@@ -48,6 +49,6 @@ returns-else-on-lt-LEAST_ROWS c =
     let r = rows a.px.now a.py.now a.xi.now a.eta.now in
     let p : 3 ≤ length a.pool.now = omega (arith, c.if-pool-lt-LEAST_ROWS.false) in
     let three : 3 ≤ c.search-held.result.on = omega (arith, c.if-on-lt-LEAST_ROWS.false) in
-    let e = ap model_of c.in-Plate.is in
+    let e = ap model_of c.in-Ok.is in
     let on = held_on r a.limit a.pool.now a.trials c.search-held.result (held (goal.at.returns-else-on-lt-LEAST_ROWS c).After-search-held) p _ e in
-    let marked = c.mark_near.ensures ∙ ap (λ l. written (near_marks r l c.in-Plate.m) a.mask.now) c.of-reach.ensures.0 in let it = ended _ _ _ _ _ _ _ (three_held r a.limit a.pool.now a.trials c.search-held.result (held (goal.at.returns-else-on-lt-LEAST_ROWS c).After-search-held) p _ e three) (ap Fitted on) marked in record { answer = it.0; mask = it.1 }
+    let marked = c.mark_near.ensures ∙ ap (λ l. written (near_marks r l c.in-Ok.m) a.mask.now) c.of-reach.ensures.0 in let it = ended _ _ _ _ _ _ _ (three_held r a.limit a.pool.now a.trials c.search-held.result (held (goal.at.returns-else-on-lt-LEAST_ROWS c).After-search-held) p _ e three) (ap (λ k. Ok (Fitted k)) on) marked in record { answer = it.0; mask = it.1 }

@@ -14,12 +14,12 @@ returns-then-few_rows c = rw (ne_eqb _ _ c.if-wcs-ne6.true, ← c.few_rows.ensur
 pub returns-then-wcs-ne6 : goal.returns-then-wcs-ne6
 returns-then-wcs-ne6 c = rw (ne_eqb _ _ c.if-wcs-ne6.true, ← c.few_rows.ensures, c.if-few_rows.false) (record { number = c.number-then-wcs-ne6.ensures; x = refl; y = refl; all = refl; residuals = refl })
 
-pub returns-in-Refused : goal.returns-in-Refused
-returns-in-Refused c =
+pub returns-in-Err : goal.returns-in-Err
+returns-in-Err c =
     let a = c.args in
-    let e = refused (residuals_done (rows a.px.now a.py.now a.xi.now a.eta.now) c.of.result (length a.x.now) (length a.y.now) (length a.all.now)) (found_of c.of.result (length a.px.now)) _ (sym c.compute_residuals.ensures.answer ∙ c.in-Refused.is) in rw (eq-eqb _ _ c.if-wcs-ne6.false, ← c.of.ensures, e) (record { number = c.number-in-Refused.ensures; x = rw e at c.compute_residuals.ensures.x; y = rw e at c.compute_residuals.ensures.y; all = rw e at c.compute_residuals.ensures.px; residuals = refl })
+    let e = refused (residuals_done (rows a.px.now a.py.now a.xi.now a.eta.now) c.of.result (length a.x.now) (length a.y.now) (length a.all.now)) (found_of c.of.result (length a.px.now)) _ (sym c.compute_residuals.ensures.answer ∙ c.in-Err.is) in rw (eq-eqb _ _ c.if-wcs-ne6.false, ← c.of.ensures, e) (record { number = c.number-in-Err.ensures; x = rw e at c.compute_residuals.ensures.x; y = rw e at c.compute_residuals.ensures.y; all = rw e at c.compute_residuals.ensures.px; residuals = refl })
 
-pub returns-in-Found : goal.returns-in-Found
-returns-in-Found c =
+pub returns-in-Ok : goal.returns-in-Ok
+returns-in-Ok c =
     let a = c.args in
-    let e = found (residuals_done (rows a.px.now a.py.now a.xi.now a.eta.now) c.of.result (length a.x.now) (length a.y.now) (length a.all.now)) (found_of c.of.result (length a.px.now)) _ (sym c.compute_residuals.ensures.answer ∙ c.in-Found.is) in rw (eq-eqb _ _ c.if-wcs-ne6.false, ← c.of.ensures) (record { number = sym (ap answer_number e.0); x = c.compute_residuals.ensures.x; y = c.compute_residuals.ensures.y; all = c.compute_residuals.ensures.px; residuals = rw e.0 e.1 })
+    let e = found (residuals_done (rows a.px.now a.py.now a.xi.now a.eta.now) c.of.result (length a.x.now) (length a.y.now) (length a.all.now)) (found_of c.of.result (length a.px.now)) _ (sym c.compute_residuals.ensures.answer ∙ c.in-Ok.is) in rw (eq-eqb _ _ c.if-wcs-ne6.false, ← c.of.ensures) (record { number = sym (ap answer_number e.0); x = c.compute_residuals.ensures.x; y = c.compute_residuals.ensures.y; all = c.compute_residuals.ensures.px; residuals = rw e.0 e.1 })

@@ -1,7 +1,10 @@
 -- `sip::fit_lent` meets its contract: the end of the rounds decides. Assumes nothing.
-use Rattle.sip.proofs.Ending.{failed, done, done_a, done_b, refused_not}
+use Rattle.sip.proofs.Ending.{failed, done, done_a, done_b}
 use Rattle.sip_rounds.specs.Rounds.{rounds_of, ended_as}
 use Rattle.sip_sums.specs.Field.{field}
+use borrow.Author.Rules.{rules}
+use Prim.Native.Nat.{ℕ}
+use Rattle.std.specs.Prelude.{Err}
 use Rattle.rows.specs.Rows.{rows}
 use lib.ListN.{length, length-replicate}
 use native.Mathlib.Omega.{arith}
@@ -26,27 +29,15 @@ fit_rounds-requires c = let m : length c.args.mask.now ≡ length c.args.px.now 
 pub sip_of-requires : goal.sip_of-requires
 sip_of-requires c = let p = c.fit_rounds in let m : length c.args.mask.now ≡ length c.args.px.now = rw c.requires.roots_len_2 (length-replicate (length c.args.px.now) 1) in let x = p.auto.mask ∙ m in (x ∙ sym c.requires.py_len_4, p.auto.errors ∙ c.requires.roots_len_3 ∙ sym c.requires.py_len_4, omega (arith, x, c.requires.py_len_5))
 
-pub shape_of-lines-in-Refused : goal.shape_of-lines-in-Refused
-shape_of-lines-in-Refused c = c.put_lines.auto.lines
-
-pub shape_of-up-in-Refused : goal.shape_of-up-in-Refused
-shape_of-up-in-Refused c = c.put_powers.auto.up
-
-pub returns-in-Refused : goal.returns-in-Refused
-returns-in-Refused c = let g = c.args in let p = c.fit_rounds in
-    let f = field (rows g.px.now g.py.now g.xi.now g.eta.now) g.snr.now g.wcs in record { answer = failed f (rounds_of f g.n) p.result p.new.mask p.new.a p.new.b (rw c.requires.roots_len_2 at p.ensures.ended) _ c.in-Refused.is; a = λ e. refused_not _ e; b = λ e. refused_not _ e }
-
-pub shape_of-lines-in-Done : goal.shape_of-lines-in-Done
-shape_of-lines-in-Done c = c.put_lines.auto.lines
-
-pub shape_of-up-in-Done : goal.shape_of-up-in-Done
-shape_of-up-in-Done c = c.put_powers.auto.up
-
-pub shape_of-vp-in-Done : goal.shape_of-vp-in-Done
-shape_of-vp-in-Done c = c.put_powers.auto.vp
-
-pub returns-in-Done : goal.returns-in-Done
-returns-in-Done c = let g = c.args in let p = c.fit_rounds in
+pub returns : goal.returns
+returns c = let g = c.args in let p = c.fit_rounds in
     let f = field (rows g.px.now g.py.now g.xi.now g.eta.now) g.snr.now g.wcs in
     let t : ended_as p.result p.new.mask p.new.a p.new.b ≡ rounds_of f g.n = rw c.requires.roots_len_2 at p.ensures.ended in
-    let d = c.in-Done.is in record { answer = done f (rounds_of f g.n) p.result p.new.mask p.new.a p.new.b t d c.sip_of.result c.linear_rms-linear.result p.new.errors c.linear_rms-linear.ensures (p.ensures.errors d) c.sip_of.ensures; a = λ e. done_a f (rounds_of f g.n) p.result p.new.mask p.new.a p.new.b t d; b = λ e. done_b f (rounds_of f g.n) p.result p.new.mask p.new.a p.new.b t d }
+    let d = c.in_ok-fit_rounds.was in record { answer = done f (rounds_of f g.n) p.result p.new.mask p.new.a p.new.b t d c.sip_of.result c.linear_rms-linear.result p.new.errors c.linear_rms-linear.ensures (p.ensures.errors d) c.sip_of.ensures; a = λ e. done_a f (rounds_of f g.n) p.result p.new.mask p.new.a p.new.b t d; b = λ e. done_b f (rounds_of f g.n) p.result p.new.mask p.new.a p.new.b t d }
+
+pub returns-in_err-fit_rounds : goal.returns-in_err-fit_rounds
+returns-in_err-fit_rounds c = let g = c.args in let p = c.fit_rounds in
+    let f = field (rows g.px.now g.py.now g.xi.now g.eta.now) g.snr.now g.wcs in
+    let t : ended_as p.result p.new.mask p.new.a p.new.b ≡ rounds_of f g.n = rw c.requires.roots_len_2 at p.ensures.ended in
+    let e : c.from_residual.result ≡ Err c.in_err-fit_rounds.field-0.0 = search rules in
+    record { answer = rw e (failed f (rounds_of f g.n) p.result p.new.mask p.new.a p.new.b t _ c.in_err-fit_rounds.was); a = λ d. let z : ◌≡◌ {A = ℕ} 0 1 = cc (rw e at d) in absurd (omega arith); b = λ d. let z : ◌≡◌ {A = ℕ} 0 1 = cc (rw e at d) in absurd (omega arith) }

@@ -2,8 +2,8 @@
 use mathlib.Core.Path.{refl}
 use Rattle.sip_face.proofs.put_fit.Goals as goal
 
-pub returns-in-Refused : goal.returns-in-Refused
-returns-in-Refused c = rw c.in-Refused.is (record { number = c.number.ensures; rows = refl; sums = refl })
+pub returns-in-Err : goal.returns-in-Err
+returns-in-Err c = rw c.in-Err.is (record { number = c.number.ensures; rows = refl; sums = refl })
 
-pub returns-in-Fitted : goal.returns-in-Fitted
-returns-in-Fitted c = rw c.in-Fitted.is (record { number = refl; rows = c.put_sip.ensures.rows; sums = c.put_sip.ensures.sums })
+pub returns-in-Ok : goal.returns-in-Ok
+returns-in-Ok c = rw c.in-Ok.is (record { number = refl; rows = c.put_sip.ensures.rows; sums = c.put_sip.ensures.sums })

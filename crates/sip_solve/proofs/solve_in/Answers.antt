@@ -21,11 +21,11 @@ put_coefficients-requires c = let e : length c.args.m.now ≡ c.args.n * (c.args
 pub overflow_add-n : goal.overflow_add-n
 overflow_add-n c = omega (arith, c.requires.n_bound)
 
-pub put_coefficients-requires-in-Reduced : goal.put_coefficients-requires-in-Reduced
-put_coefficients-requires-in-Reduced c = let e : length c.args.m.now ≡ c.args.n * (c.args.n + 2) = rw c.requires.m_value (length-replicate (c.args.n * (c.args.n + 2)) nothing) in record { m_len = c.eliminate.auto.m ∙ c.put_sums.auto.m ∙ e; n_le_w = (omega arith, omega arith); x_len = c.requires.a_len_2 }
+pub put_coefficients-requires-in-Ok : goal.put_coefficients-requires-in-Ok
+put_coefficients-requires-in-Ok c = let e : length c.args.m.now ≡ c.args.n * (c.args.n + 2) = rw c.requires.m_value (length-replicate (c.args.n * (c.args.n + 2)) nothing) in record { m_len = c.eliminate.auto.m ∙ c.put_sums.auto.m ∙ e; n_le_w = (omega arith, omega arith); x_len = c.requires.a_len_2 }
 
-pub returns-in-Stopped : goal.returns-in-Stopped
-returns-in-Stopped c = let a = c.args in let p = c.put_sums in let e = c.eliminate in sym (axes_stopped (sums_in (cells a.lines.now (a.n + 2)) a.snr.now a.mask.now (length a.snr.now)) a.n p.new.m e.new.m p.ensures e.result _ c.in-Stopped.is e.ensures)
+pub returns-in-Err : goal.returns-in-Err
+returns-in-Err c = let a = c.args in let p = c.put_sums in let e = c.eliminate in sym (axes_stopped (sums_in (cells a.lines.now (a.n + 2)) a.snr.now a.mask.now (length a.snr.now)) a.n p.new.m e.new.m p.ensures e.result _ c.in-Err.is e.ensures)
 
-pub returns-in-Reduced : goal.returns-in-Reduced
-returns-in-Reduced c = let a = c.args in let p = c.put_sums in let e = c.eliminate in rw (c.put_coefficients.ensures, c.put_coefficients-in-Reduced.ensures) (sym (axes_solved (sums_in (cells a.lines.now (a.n + 2)) a.snr.now a.mask.now (length a.snr.now)) a.n p.new.m e.new.m p.ensures e.result c.in-Reduced.is e.ensures))
+pub returns-in-Ok : goal.returns-in-Ok
+returns-in-Ok c = let a = c.args in let p = c.put_sums in let e = c.eliminate in rw (c.put_coefficients.ensures, c.put_coefficients-in-Ok.ensures) (sym (axes_solved (sums_in (cells a.lines.now (a.n + 2)) a.snr.now a.mask.now (length a.snr.now)) a.n p.new.m e.new.m p.ensures e.result c.in-Ok.is e.ensures))

@@ -5,8 +5,7 @@ use Rattle.elimination_rows.specs.Matrix.{cells}
 use Rattle.cd_plate.specs.Filled.{filled}
 use lib.ListN.{length}
 use mathlib.Core.Path.{◌≡◌}
-use Prim.Native.Nat.{◌≤◌}
 use Rattle.sip_values.proofs.put_values.Given as goal
 
-abbrev pub invariant-loop-i : goal.invariant-loop-i
-invariant-loop-i l = (l.s ≡ filled (value_in l.cs (cells l.up (length l.initial.s)) (cells l.vp (length l.initial.s)) l.i) (length l.initial.s)) × (l.t ≡ term_at l.i) × (length l.s ≡ length l.initial.s) × (l.i ≤ l.n) × (l.n ≡ length l.cs) × (l.n ≤ 18)
+abbrev pub invariant-loop-c : goal.invariant-loop-c
+invariant-loop-c l = (l.s ≡ filled (value_in l.cs (cells l.up (length l.initial.s)) (cells l.vp (length l.initial.s)) l.c-index) (length l.initial.s)) × (l.t ≡ term_at l.c-index)
