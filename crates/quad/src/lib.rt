@@ -1,7 +1,7 @@
 // The quads of a list of stars: each set of four near stars, once.
 #![tactic(auto)]
 
-ghost use Rattle.std.specs.Prelude.{◌≡◌, cond, ◌+◌, ◌<◌, ◌≤◌, min, leb, length, take};
+ghost use Rattle.std.specs.Prelude.{◌≡◌, cond, ◌+◌, ◌<◌, ◌≤◌, leb, length, take};
 ghost use Rattle.std.proofs.lemmas.List.Edits.{sets};
 ghost use Rattle.quad_near.specs.Kept.{FiniteStars};
 ghost use Rattle.quad_normal.specs.Normal.{scaled_by};
@@ -139,10 +139,8 @@ fn needed(xs: &[f64], ys: &[f64], least: f64, store: &[u32], n: usize) -> usize
     ensures { result ≡ length (all_places xs.now ys.now least (take n store.now)) }
 {
     let mut m = 0usize;
-    let mut i = 0usize;
-    while i < n {
+    for i in 0..n {
         m += size_of(xs, ys, least, store[i]);
-        i += 1;
     }
     m
 }
@@ -190,10 +188,8 @@ fn write_sets(
         p result places.old hashes.old places.new hashes.new }
 {
     let mut at = p;
-    let mut i = 0usize;
-    while i < n {
+    for i in 0..n {
         at = write_one(places, hashes, at, quad_of(xs, ys, least, store[i]));
-        i += 1;
     }
     at
 }
@@ -206,11 +202,9 @@ fn needed_all(xs: &[f64], ys: &[f64], least: f64, lists: &[u8], words: &[u64], c
 {
     let mut store = [0u32; 120];
     let mut m = 0usize;
-    let mut seed = 0usize;
-    while seed < xs.len() {
+    for seed in 0..xs.len() {
         let n = quad_lists::sets_of(&mut store, lists, words, xs.len(), c, seed);
         m += needed(xs, ys, least, &store, n);
-        seed += 1;
     }
     m
 }
@@ -255,20 +249,11 @@ fn write_all(
 {
     let mut store = [0u32; 120];
     let mut p = 0usize;
-    let mut seed = 0usize;
-    while seed < xs.len() {
+    for seed in 0..xs.len() {
         let n = quad_lists::sets_of(&mut store, lists, words, xs.len(), c, seed);
         p = write_sets(xs, ys, least, &store, n, places, hashes, p);
-        seed += 1;
     }
     p
-}
-
-// The lesser of two numbers.
-fn lesser(a: usize, b: usize) -> usize
-    ensures { result ≡ min a b }
-{
-    if a < b { a } else { b }
 }
 
 // The tests of the input, in their order.
@@ -312,7 +297,7 @@ fn put_quads(
         &lists,
         &words,
         c,
-        lesser(places.len(), hashes.len()),
+        places.len().min(hashes.len()),
     ) {
         return Err(Refusal::Room);
     }

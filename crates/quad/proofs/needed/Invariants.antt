@@ -7,6 +7,3 @@ use Rattle.quad.proofs.needed.Given as goal
 
 abbrev pub invariant-loop-i : goal.invariant-loop-i
 invariant-loop-i l = (l.i ≤ l.n) × (l.m ≤ 4 * l.i) × (l.m + length (all_places l.xs l.ys l.least (drop l.i (take l.n l.store))) ≡ length (all_places l.xs l.ys l.least (take l.n l.store)))
-
-abbrev pub decreases-loop-i : goal.decreases-loop-i
-decreases-loop-i l = l.n - l.i

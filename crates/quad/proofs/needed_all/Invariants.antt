@@ -9,6 +9,3 @@ use Rattle.quad.proofs.needed_all.Given as goal
 
 abbrev pub invariant-loop-seed : goal.invariant-loop-seed
 invariant-loop-seed l = (l.seed ≤ length l.xs) × (l.m ≤ 480 * l.seed) × (l.m + length (all_places l.xs l.ys l.least (new_from (rows_of l.lists l.c) l.seed (length l.xs - l.seed))) ≡ length (all_places l.xs l.ys l.least (listed l.lists l.c (length l.xs)))) × (length l.store ≡ 120)
-
-abbrev pub decreases-loop-seed : goal.decreases-loop-seed
-decreases-loop-seed l = length l.xs - l.seed
