@@ -18,8 +18,9 @@ use Rattle.sip_terms.specs.Terms.{count_to, term_count}
 use Rattle.record_lines.specs.Lines.{Solution}
 use Rattle.record.proofs.Laws.{checked}
 use Rattle.record_reader.specs.Reading.{Reading, record_in}
-use Rattle.record_load.specs.declared.Loaded.{Loaded}
-use Rattle.record_load.specs.declared.Loaded.TheVariants as loaded
+use Rattle.record_reader.specs.declared.Shown.{Shown}
+use Rattle.record_load.specs.declared.LoadError.{LoadError}
+use Rattle.record_load.specs.declared.LoadError.TheVariants as error
 use Rattle.record_load.specs.Load.{a_in, b_in, loaded_in, after_room, loaded_number, RecordLoaded}
 use Rattle.record_back.proofs.Tests.{tests}
 use Rattle.record_back.proofs.Same.{writes_back}
@@ -56,7 +57,7 @@ no_room : (n : ℕ) → 1 ≤ n → room_for n 0 ≡ Err refusal.Room
 no_room n h = rw (lt-ltb 0 n (omega (arith, h)))
 
 -- of a text with a wrong line it is the line
-wrong_answer : (line p b : ℕ) → after_room (first (room_for 0 p) (room_for 0 b)) (loaded.Wrong line) ≡ loaded.Wrong line
+wrong_answer : (line p b : ℕ) → after_room (first (room_for 0 p) (room_for 0 b)) (Err (error.Wrong (record { line = line }))) ≡ Err (error.Wrong (record { line = line }))
 wrong_answer line p b = rw (room_none p, room_none b)
 
 -- without room for the WCS or the sums there is none for a
@@ -96,7 +97,7 @@ abbrev lent_places : Lent → ℕ
 lent_places o = places_of (length o.a) (length o.wcs) (length o.sums)
 
 -- the steps of `read_record`
-pub record Steps (t : List ℕ) (o : Lent) (read : Loaded) (a b : List Float) (r : ℕ) (n : Lent) : Type 0 where
+pub record Steps (t : List ℕ) (o : Lent) (read : Result Shown LoadError) (a b : List Float) (r : ℕ) (n : Lent) : Type 0 where
   pub inner : RecordLoaded (record_in t) (take (lent_places o) o.a) o.b read a b
   pub number : r ≡ loaded_number read
   pub a_is : n.a ≡ a ++ drop (lent_places o) o.a
@@ -112,37 +113,37 @@ abbrev Promised : Reading → Lent → ℕ → Lent → Type 0
 Promised R o r n = (r ≡ answer_number (read_done R o)) × (n ≡ lent_read R o)
 
 -- the first wrong line
-wrong_end : (line p : ℕ) (o n : Lent) (read : Loaded) (a b : List Float) (r : ℕ) → RecordLoaded (Reading.WrongAt line) (take p o.a) o.b read a b
+wrong_end : (line p : ℕ) (o n : Lent) (read : Result Shown LoadError) (a b : List Float) (r : ℕ) → RecordLoaded (Reading.WrongAt line) (take p o.a) o.b read a b
     → r ≡ loaded_number read → n.a ≡ a ++ drop p o.a → n.b ≡ b → bare n ≡ put_in read (bare o) → Promised (Reading.WrongAt line) o r n
 wrong_end line p o n read a b r i er ea eb ez =
-    let e : read ≡ loaded.Wrong line = i.answer ∙ wrong_answer line (length (take p o.a)) (length o.b) in
+    let e : read ≡ Err (error.Wrong (record { line = line })) = i.answer ∙ wrong_answer line (length (take p o.a)) (length o.b) in
     let x : n.a ≡ o.a = ea ∙ ap (λ (l : List Float). l ++ drop p o.a) i.first ∙ take-append-drop p o.a in
-    (er ∙ ap loaded_number e, whole n (at_line line (bare o)) o.a o.b x (eb ∙ i.second) (ez ∙ ap (λ (l : Loaded). put_in l (bare o)) e))
+    (er ∙ ap loaded_number e, whole n (at_line line (bare o)) o.a o.b x (eb ∙ i.second) (ez ∙ ap (λ (l : Result Shown LoadError). put_in l (bare o)) e))
 
 -- no room beside the coefficients
-short_end : (format : ℕ) (s : Solution) (o n : Lent) (read : Loaded) (a b : List Float) (r : ℕ) → 1 ≤ length s.a → room_in s o ≡ Err refusal.Room
+short_end : (format : ℕ) (s : Solution) (o n : Lent) (read : Result Shown LoadError) (a b : List Float) (r : ℕ) → 1 ≤ length s.a → room_in s o ≡ Err refusal.Room
     → RecordLoaded (Reading.Shows format s) (take 0 o.a) o.b read a b → r ≡ loaded_number read → n.a ≡ a ++ drop 0 o.a → n.b ≡ b → bare n ≡ put_in read (bare o)
     → Promised (Reading.Shows format s) o r n
 short_end format s o n read a b r some short i er ea eb ez =
     let none = no_room (length s.a) some in
-    let e : read ≡ loaded.Refused refusal.Room = rw none at i.answer in
+    let e : read ≡ Err (error.Refused refusal.Room) = rw none at i.answer in
     let fa : a ≡ take 0 o.a = rw none at i.first in
     let fb : b ≡ o.b = rw none at i.second in
     let x : n.a ≡ o.a = ea ∙ ap (λ (l : List Float). l ++ drop 0 o.a) fa ∙ take-append-drop 0 o.a in
-    let z : bare n ≡ bare o = ez ∙ ap (λ (l : Loaded). put_in l (bare o)) e in
+    let z : bare n ≡ bare o = ez ∙ ap (λ (l : Result Shown LoadError). put_in l (bare o)) e in
     rw short (er ∙ ap loaded_number e, whole n (bare o) o.a o.b x (eb ∙ fb) z)
 
 -- room for the coefficients, or none
-long_end : (room : Result Unit Refusal) (format : ℕ) (s : Solution) (o n : Lent) (read : Loaded) (a b : List Float) (r : ℕ) → read ≡ after_room room (loaded.Is format s.fit s.wcs s.order)
+long_end : (room : Result Unit Refusal) (format : ℕ) (s : Solution) (o n : Lent) (read : Result Shown LoadError) (a b : List Float) (r : ℕ) → read ≡ after_room room (Ok (record { format = format; fit = s.fit; wcs = s.wcs; order = s.order }))
     → a ≡ lent_after room s.a o.a → b ≡ lent_after room s.b o.b → r ≡ loaded_number read → n.a ≡ a → n.b ≡ b → bare n ≡ put_in read (bare o)
     → (r ≡ answer_number room) × (n ≡ held_after room format s o)
 long_end (Ok tt) format s o n read a b r e fa fb er ea eb ez =
-    (er ∙ ap loaded_number e, whole n (bare (holding format s o)) _ _ (ea ∙ fa) (eb ∙ fb) (ez ∙ ap (λ (l : Loaded). put_in l (bare o)) e))
+    (er ∙ ap loaded_number e, whole n (bare (holding format s o)) _ _ (ea ∙ fa) (eb ∙ fb) (ez ∙ ap (λ (l : Result Shown LoadError). put_in l (bare o)) e))
 long_end (Err why) format s o n read a b r e fa fb er ea eb ez =
-    (er ∙ ap loaded_number e, whole n (bare o) o.a o.b (ea ∙ fa) (eb ∙ fb) (ez ∙ ap (λ (l : Loaded). put_in l (bare o)) e))
+    (er ∙ ap loaded_number e, whole n (bare o) o.a o.b (ea ∙ fa) (eb ∙ fb) (ez ∙ ap (λ (l : Result Shown LoadError). put_in l (bare o)) e))
 
 -- the promise, from the steps
-promised : (R : Reading) (o n : Lent) (read : Loaded) (a b : List Float) (r : ℕ) → Some R → RecordLoaded R (take (lent_places o) o.a) o.b read a b
+promised : (R : Reading) (o n : Lent) (read : Result Shown LoadError) (a b : List Float) (r : ℕ) → Some R → RecordLoaded R (take (lent_places o) o.a) o.b read a b
     → r ≡ loaded_number read → n.a ≡ a ++ drop (lent_places o) o.a → n.b ≡ b → bare n ≡ put_in read (bare o) → Promised R o r n
 promised (Reading.WrongAt line) o n read a b r some i er ea eb ez = wrong_end line (lent_places o) o n read a b r i er ea eb ez
 promised (Reading.Shows format s) o n read a b r some i er ea eb ez = go (ltb (length o.wcs) 6 || ltb (length o.sums) 3) refl i ea
@@ -160,25 +161,25 @@ promised (Reading.Shows format s) o n read a b r some i er ea eb ez = go (ltb (l
         rw (long_room s o two.0 two.1)
         (long_end (first (room_for (length s.a) (length o.a)) (room_for (length s.b) (length o.b))) format s o n read a b r k.answer k.first k.second er g eb ez)
 
-pub read_is : (t : List ℕ) (o n : Lent) (read : Loaded) (a b : List Float) (r : ℕ) → Steps t o read a b r n → RecordRead t o r n
+pub read_is : (t : List ℕ) (o n : Lent) (read : Result Shown LoadError) (a b : List Float) (r : ℕ) → Steps t o read a b r n → RecordRead t o r n
 read_is t o n read a b r s =
     let p = promised (record_in t) o n read a b r (some_shown t) s.inner s.number s.a_is s.b_is s.rest in
     record { number = p.0; after = p.1 }
 
 -- ---- room for the rest of a solution
 
-room_any : (read : Loaded) (wcs sums : ℕ) → 6 ≤ wcs → 3 ≤ sums → RoomWhereRead read wcs sums
-room_any (loaded.Is format fit wcs order) places sums h g = (h, g)
-room_any (loaded.Wrong line) places sums h g = tt
-room_any (loaded.Refused why) places sums h g = tt
+room_any : (read : Result Shown LoadError) (wcs sums : ℕ) → 6 ≤ wcs → 3 ≤ sums → RoomWhereRead read wcs sums
+room_any (Ok s) places sums h g = (h, g)
+room_any (Err (error.Wrong wrong)) places sums h g = tt
+room_any (Err (error.Refused why)) places sums h g = tt
 
 -- a solution is read only where there is room for all of it
-pub room_read : (t : List ℕ) (a b : List Float) (wcs sums : ℕ) (read : Loaded) (x y : List Float) → RecordLoaded (record_in t) (take (places_of (length a) wcs sums) a) b read x y → RoomWhereRead read wcs sums
+pub room_read : (t : List ℕ) (a b : List Float) (wcs sums : ℕ) (read : Result Shown LoadError) (x y : List Float) → RecordLoaded (record_in t) (take (places_of (length a) wcs sums) a) b read x y → RoomWhereRead read wcs sums
 room_read t a b wcs sums read x y i = go (ltb wcs 6 || ltb sums 3) refl i.answer
   where
     none : (R : Reading) → Some R → read ≡ after_room (first (room_for (length (a_in R)) 0) (room_for (length (b_in R)) (length b))) (loaded_in R) → RoomWhereRead read wcs sums
-    none (Reading.Shows format s) some e = let n = no_room (length s.a) some in let f : read ≡ loaded.Refused refusal.Room = (rw n at e) in rw f tt
-    none (Reading.WrongAt line) some e = let f : read ≡ loaded.Wrong line = e ∙ wrong_answer line 0 (length b) in rw f tt
+    none (Reading.Shows format s) some e = let n = no_room (length s.a) some in let f : read ≡ Err (error.Refused refusal.Room) = (rw n at e) in rw f tt
+    none (Reading.WrongAt line) some e = let f : read ≡ Err (error.Wrong (record { line = line })) = e ∙ wrong_answer line 0 (length b) in rw f tt
 
     go : (short : Bool) → (ltb wcs 6 || ltb sums 3) ≡ short
         → read ≡ after_room (first (room_for (length (a_in (record_in t))) (length (take (cond short 0 (length a)) a))) (room_for (length (b_in (record_in t))) (length b))) (loaded_in (record_in t)) → RoomWhereRead read wcs sums

@@ -7,8 +7,9 @@ use Rattle.wcs.specs.Wcs.{wcs_numbers}
 use Rattle.sip_terms.specs.Sums.{sums_of}
 use Rattle.record_lines.specs.Lines.{Solution}
 use Rattle.record_reader.specs.Reading.{Reading, record_in}
-use Rattle.record_load.specs.declared.Loaded.{Loaded}
-use Rattle.record_load.specs.declared.Loaded.TheVariants as loaded
+use Rattle.record_reader.specs.declared.Shown.{Shown}
+use Rattle.record_load.specs.declared.LoadError.{LoadError}
+use Rattle.record_load.specs.declared.LoadError.TheVariants as error
 
 -- what is lent to the call, and what stands there
 pub record Lent : Type 0 where
@@ -71,14 +72,14 @@ abbrev pub places_of : ℕ → ℕ → ℕ → ℕ
 places_of a wcs sums = cond (ltb wcs 6 || ltb sums 3) 0 a
 
 -- what stands beside the coefficients after an answer of the inner call
-abbrev pub put_in : Loaded → Lent → Lent
-put_in (loaded.Is format fit wcs order) o =
-    lent format fit.rows_used (written (wcs_numbers wcs) o.wcs) order o.a o.b (written (sums_of fit) o.sums) o.line
-put_in (loaded.Wrong line) o = at_line line o
-put_in (loaded.Refused why) o = o
+abbrev pub put_in : Result Shown LoadError → Lent → Lent
+put_in (Ok s) o =
+    lent s.format s.fit.rows_used (written (wcs_numbers s.wcs) o.wcs) s.order o.a o.b (written (sums_of s.fit) o.sums) o.line
+put_in (Err (error.Wrong wrong)) o = at_line wrong.line o
+put_in (Err (error.Refused why)) o = o
 
 -- an answer with a solution comes where there is room for the rest of it
-abbrev pub RoomWhereRead : Loaded → ℕ → ℕ → Type 0
-RoomWhereRead (loaded.Is format fit wcs order) places sums = (6 ≤ places) × (3 ≤ sums)
-RoomWhereRead (loaded.Wrong line) places sums = Unit {0}
-RoomWhereRead (loaded.Refused why) places sums = Unit {0}
+abbrev pub RoomWhereRead : Result Shown LoadError → ℕ → ℕ → Type 0
+RoomWhereRead (Ok s) places sums = (6 ≤ places) × (3 ≤ sums)
+RoomWhereRead (Err (error.Wrong wrong)) places sums = Unit {0}
+RoomWhereRead (Err (error.Refused why)) places sums = Unit {0}

@@ -9,7 +9,8 @@ ghost use Rattle.record_face.specs.Face.{sip_in, solution_in, record_face};
 ghost use Rattle.record_face.specs.Read.{lent, RecordRead, places_of, put_in, RoomWhereRead};
 
 use answer::Refusal;
-use record_load::Loaded;
+use record_load::LoadError;
+use record_reader::Shown;
 use sip_terms::Sip;
 use wcs::Wcs;
 
@@ -72,7 +73,7 @@ fn places(a: usize, wcs: usize, sums: usize) -> usize
 
 // What was read beside the coefficients, into what is lent.
 fn put_loaded(
-    read: Loaded,
+    read: Result<Shown, LoadError>,
     format: &mut u32,
     rows_used: &mut u64,
     wcs: &mut [f64],
@@ -88,16 +89,16 @@ fn put_loaded(
         [] [] sums.old line.old) }
 {
     match read {
-        Loaded::Refused(why) => why.number(),
-        Loaded::Wrong(first) => {
-            *line = first as u64;
+        Err(LoadError::Refused(why)) => why.number(),
+        Err(LoadError::Wrong(wrong)) => {
+            *line = wrong.line as u64;
             Refusal::Form.number()
         }
-        Loaded::Is(form, fit, plate, degree) => {
-            *format = form;
-            sip_terms::put_sip(fit, rows_used, sums);
-            wcs::put_wcs(plate, wcs);
-            *order = degree;
+        Ok(shown) => {
+            *format = shown.format;
+            sip_terms::put_sip(shown.fit, rows_used, sums);
+            wcs::put_wcs(shown.wcs, wcs);
+            *order = shown.order;
             0
         }
     }

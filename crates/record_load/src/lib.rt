@@ -4,42 +4,43 @@
 ghost use Rattle.std.specs.Prelude.{◌≡◌, ◌≤◌, length};
 ghost use Rattle.answer.specs.Answers.{first, room_for, written, lent_after};
 ghost use Rattle.record_reader.specs.Reading.{record_in};
-ghost use Rattle.record_load.specs.Load.{loaded_of, RecordLoaded, loaded_number};
+ghost use Rattle.record_load.specs.Load.{RecordLoaded, loaded_number};
+ghost use Rattle.record_load.specs.declared.LoadError.TheVariants as load_error;
 
 use answer::Refusal;
-use record_reader::Shown;
-use sip_terms::Sip;
-use wcs::Wcs;
+use record_reader::{Shown, WrongLine};
 
-// The answer of read_record: what a record shows beside its coefficients, its format, what a fit hands back, the WCS and the
-// order; or the number of its first wrong line; or why it is refused otherwise.
+// Why a record is not read: its first wrong line, or another refusal.
 #[derive(Clone, Copy)]
-pub enum Loaded {
-    Is(u32, Sip, Wcs, u32),
-    Wrong(u32),
+pub enum LoadError {
+    Wrong(WrongLine),
     Refused(Refusal),
 }
 
-impl Loaded {
-    // What is answered where the coefficients are handed out.
-    fn of(shown: Shown) -> Loaded
-        ensures { result ≡ loaded_of shown }
-    {
-        match shown {
-            Shown::Is(format, fit, wcs, order) => Loaded::Is(format, fit, wcs, order),
-            Shown::Wrong(line) => Loaded::Wrong(line),
-        }
-    }
+impl From<WrongLine> for LoadError {
+    ghost from_gives = { λ e r. r ≡ load_error.Wrong e };
 
-    // The number of the answer: 0 is done.
-    pub fn number(self) -> u32
-        ensures { result ≡ loaded_number self }
-    {
-        match self {
-            Loaded::Is(_, _, _, _) => 0,
-            Loaded::Wrong(_) => Refusal::Form.number(),
-            Loaded::Refused(why) => why.number(),
-        }
+    fn from(wrong: WrongLine) -> LoadError {
+        LoadError::Wrong(wrong)
+    }
+}
+
+impl From<Refusal> for LoadError {
+    ghost from_gives = { λ e r. r ≡ load_error.Refused e };
+
+    fn from(why: Refusal) -> LoadError {
+        LoadError::Refused(why)
+    }
+}
+
+// The number of the answer of read_record: 0 is done.
+pub fn number(answer: Result<Shown, LoadError>) -> u32
+    ensures { result ≡ loaded_number answer }
+{
+    match answer {
+        Ok(_) => 0,
+        Err(LoadError::Wrong(_)) => Refusal::Form.number(),
+        Err(LoadError::Refused(why)) => why.number(),
     }
 }
 
@@ -76,16 +77,14 @@ fn hand_both(xs: &[f64], ys: &[f64], a: &mut [f64], b: &mut [f64]) -> Result<(),
 // Reads a record of any format: what it shows beside its coefficients is the answer, and those of each axis, one for each
 // term of the order, are handed out as they were solved to the front of a list, a dropped one as 0.0. A refusal hands out
 // nothing.
-pub fn read_record(text: &[u8], a: &mut [f64], b: &mut [f64]) -> Loaded
+pub fn read_record(text: &[u8], a: &mut [f64], b: &mut [f64]) -> Result<Shown, LoadError>
     ensures { RecordLoaded (record_in text.now) a.old b.old result a.new b.new }
 {
     let mut xs = [0.0f64; 18];
     let mut ys = [0.0f64; 18];
     let shown = record_reader::load(text, &mut xs, &mut ys);
     // A text with a wrong line shows no coefficient.
-    let n = shown.terms();
-    match hand_both(&xs[..n], &ys[..n], a, b) {
-        Err(why) => Loaded::Refused(why),
-        Ok(()) => Loaded::of(shown),
-    }
+    let n = record_reader::terms(shown);
+    hand_both(&xs[..n], &ys[..n], a, b)?;
+    Ok(shown?)
 }

@@ -1,5 +1,5 @@
 -- Laws of the whole program: what was read decides what is printed, and it has room. Assumes nothing.
-use Rattle.std.specs.Prelude.{Ok}
+use Rattle.std.specs.Prelude.{Result, Ok, Err}
 use mathlib.Core.Path.{◌≡◌, refl, sym, ap, ◌∙◌}
 use mathlib.Core.Bool.{true}
 use mathlib.Core.List.{List, ◌++◌}
@@ -21,13 +21,15 @@ use Rattle.record_lines.specs.Lines.{Solution}
 use Rattle.record.specs.Record.{solution, Passed}
 use Rattle.record.proofs.Laws.{checked}
 use Rattle.record_reader.specs.Reading.{Reading, record_in}
-use Rattle.record_load.specs.declared.Loaded.{Loaded}
-use Rattle.record_load.specs.declared.Loaded.TheVariants as loaded
+use Rattle.record_reader.specs.declared.Shown.{Shown}
+use Rattle.record_reader.specs.declared.WrongLine.{WrongLine}
+use Rattle.record_load.specs.declared.LoadError.{LoadError}
+use Rattle.record_load.specs.declared.LoadError.TheVariants as error
 use Rattle.record_load.specs.Load.{RecordLoaded, a_in, b_in, load_done, loaded_in, load_answer}
 use Rattle.record_back.proofs.Same.{writes_back}
 use Rattle.record_back.proofs.Only.{longer}
 use Rattle.record_program.specs.Program.{shown_text, wrong_text, reading_text, program_text}
-use Rattle.record_program.proofs.Texts.{shown_short}
+use Rattle.record_program.proofs.Texts.{shown_short, wrong_short}
 
 -- ---- what was read
 
@@ -46,23 +48,30 @@ answer_is t = go (record_in t) refl
     go (Reading.WrongAt line) e = refl
 
 -- no text is refused for room
-pub not_refused : (t : List ℕ) (a b x y : List Float) (r : Loaded) (why : Refusal) → length a ≡ 18 → length b ≡ 18
-    → RecordLoaded (record_in t) a b r x y → r ≡ loaded.Refused why → ⊥
+pub not_refused : (t : List ℕ) (a b x y : List Float) (r : Result Shown LoadError) (why : Refusal) → length a ≡ 18 → length b ≡ 18
+    → RecordLoaded (record_in t) a b r x y → r ≡ Err (error.Refused why) → ⊥
 not_refused t a b x y r why la lb k e = go (record_in t) (sym e ∙ (rw (la, lb) at k.answer) ∙ answer_is t)
   where
-    go : (q : Reading) → loaded.Refused why ≡ loaded_in q → ⊥
+    go : (q : Reading) → Err (error.Refused why) ≡ loaded_in q → ⊥
     go (Reading.Shows format s) f = let z : ◌≡◌ {A = ℕ} 0 1 = cc in omega arith
     go (Reading.WrongAt line) f = let z : ◌≡◌ {A = ℕ} 0 1 = cc in omega arith
 
+-- two equal answers hold the same
+same_shown : (x y : Shown) → ◌≡◌ {A = Result Shown LoadError} (Ok x) (Ok y) → x ≡ y
+same_shown x y f = cc
+
+same_line : (x y : WrongLine) → ◌≡◌ {A = Result Shown LoadError} (Err (error.Wrong x)) (Err (error.Wrong y)) → x ≡ y
+same_line x y f = cc
+
 -- a text with a wrong line: its number is printed
-pub wrong_is : (t : List ℕ) (a b x y : List Float) (r : Loaded) (line : ℕ) → length a ≡ 18 → length b ≡ 18
-    → RecordLoaded (record_in t) a b r x y → r ≡ loaded.Wrong line → wrong_text line ≡ program_text t
+pub wrong_is : (t : List ℕ) (a b x y : List Float) (r : Result Shown LoadError) (line : ℕ) → length a ≡ 18 → length b ≡ 18
+    → RecordLoaded (record_in t) a b r x y → r ≡ Err (error.Wrong (record { line = line })) → wrong_text line ≡ program_text t
 unfolding program_text
 wrong_is t a b x y r line la lb k e = go (record_in t) (sym e ∙ (rw (la, lb) at k.answer) ∙ answer_is t)
   where
-    go : (q : Reading) → loaded.Wrong line ≡ loaded_in q → wrong_text line ≡ reading_text q
+    go : (q : Reading) → Err (error.Wrong (record { line = line })) ≡ loaded_in q → wrong_text line ≡ reading_text q
     go (Reading.Shows format s) f = let z : ◌≡◌ {A = ℕ} 0 1 = cc in absurd (omega arith)
-    go (Reading.WrongAt n) f = let z : line ≡ n = cc in ap wrong_text z
+    go (Reading.WrongAt n) f = ap (λ (w : WrongLine). wrong_text w.line) (same_line _ _ f)
 
 -- what is known of the front of two lists into which the n coefficients of each axis were read
 pub record Known (t : List ℕ) (format : ℕ) (fit : Sip) (wcs : Wcs) (order n : ℕ) (x y : List Float) : Type 0 where
@@ -95,22 +104,23 @@ front_is : (n : ℕ) (us old new : List Float) → new ≡ written us old → le
 front_is n us old new e l = ap (take n) e ∙ take_at us (drop (length us) old) n l
 
 -- a text that shows a solution: all its numbers are printed
-pub shows : (t : List ℕ) (a b x y : List Float) (r : Loaded) (format : ℕ) (fit : Sip) (wcs : Wcs) (order n : ℕ) → length a ≡ 18 → length b ≡ 18
-    → RecordLoaded (record_in t) a b r x y → r ≡ loaded.Is format fit wcs order → n ≡ term_count order → Known t format fit wcs order n x y
+pub shows : (t : List ℕ) (a b x y : List Float) (r : Result Shown LoadError) (format : ℕ) (fit : Sip) (wcs : Wcs) (order n : ℕ) → length a ≡ 18 → length b ≡ 18
+    → RecordLoaded (record_in t) a b r x y → r ≡ Ok (record { format = format; fit = fit; wcs = wcs; order = order }) → n ≡ term_count order → Known t format fit wcs order n x y
 unfolding program_text
 shows t a b x y r format fit wcs order n la lb k e en = go (record_in t) refl (sym e ∙ (rw (la, lb) at k.answer) ∙ answer_is t) (rw (la, lb) at k.first) (rw (la, lb) at k.second)
   where
-    go : (q : Reading) → record_in t ≡ q → loaded.Is format fit wcs order ≡ loaded_in q → x ≡ lent_after (load_done q 18 18) (a_in q) a → y ≡ lent_after (load_done q 18 18) (b_in q) b
+    go : (q : Reading) → record_in t ≡ q → Ok (record { format = format; fit = fit; wcs = wcs; order = order }) ≡ loaded_in q → x ≡ lent_after (load_done q 18 18) (a_in q) a → y ≡ lent_after (load_done q 18 18) (b_in q) b
         → Known t format fit wcs order n x y
     go (Reading.WrongAt line) eq f g h = let z : ◌≡◌ {A = ℕ} 0 1 = cc in absurd (omega arith)
     go (Reading.Shows m s) eq f g h =
         let w = writes_back t m s eq in
         let p = w.passed in
-        let em : m ≡ format = cc in
+        let one = same_shown _ _ f in
+        let em : m ≡ format = ap (λ (x : Shown). x.format) (sym one) in
         let c = checked s.fit s.wcs s.order (length s.a) (length s.b) p in
-        let ef : fit ≡ s.fit = cc in
-        let ew : wcs ≡ s.wcs = cc in
-        let eo : order ≡ s.order = cc in
+        let ef : fit ≡ s.fit = ap (λ (x : Shown). x.fit) one in
+        let ew : wcs ≡ s.wcs = ap (λ (x : Shown). x.wcs) one in
+        let eo : order ≡ s.order = ap (λ (x : Shown). x.order) one in
         let en' : term_count s.order ≡ n = sym (en ∙ ap term_count eo) in
         let xs : x ≡ written s.a a = rw (room_enough s p) at g in
         let ys : y ≡ written s.b b = rw (room_enough s p) at h in
@@ -121,6 +131,10 @@ shows t a b x y r format fit wcs order n la lb k e en = go (record_in t) refl (s
 -- a buffer of 1,074 bytes has room for both texts
 pub room_is : (old t : List ℕ) → length old ≡ 1074 → length t ≤ 1074 → Room old 0 t
 room_is old t e h = record { room = omega (arith, e, h) }
+
+-- so that of a wrong line has it
+pub wrong_room : (old : List ℕ) (line : ℕ) → length old ≡ 1074 → Room old 0 (wrong_text line)
+wrong_room old line e = room_is old (wrong_text line) e (omega (arith, wrong_short line))
 
 -- a text at the front of a buffer: it is there, so long, and what comes after it is as it was
 pub at_front : (t u old new : List ℕ) (r : ℕ) → t ≡ u → Room old 0 t → Put old 0 t r new

@@ -10,7 +10,7 @@ ghost use Rattle.record.specs.Record.{solution};
 ghost use Rattle.record_program.specs.Program.{all_lines, shown_text, wrong_text, program_text};
 
 use record_lines::Head;
-use record_load::Loaded;
+use record_load::LoadError;
 use sip_terms::{Sip, Term};
 use wcs::Wcs;
 
@@ -83,12 +83,12 @@ pub fn answer(s: &[u8], out: &mut [u8; 1074]) -> usize
     let mut a = [0.0f64; 18];
     let mut b = [0.0f64; 18];
     match record_load::read_record(s, &mut a, &mut b) {
-        Loaded::Is(format, fit, wcs, order) => {
-            let n = sip_terms::term_count(order);
-            put_shown(out, format, fit, wcs, order, &a[..n], &b[..n])
+        Ok(is) => {
+            let n = sip_terms::term_count(is.order);
+            put_shown(out, is.format, is.fit, is.wcs, is.order, &a[..n], &b[..n])
         }
-        Loaded::Wrong(line) => put_wrong(out, line),
+        Err(LoadError::Wrong(wrong)) => put_wrong(out, wrong.line),
         // Eighteen places are room for every order: no text leads here.
-        Loaded::Refused(_) => 0,
+        Err(LoadError::Refused(_)) => 0,
     }
 }

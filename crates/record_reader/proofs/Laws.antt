@@ -1,4 +1,5 @@
 -- Laws of the functions that read a part: a part is its lines, one after the other. Assumes nothing.
+use Rattle.std.specs.Prelude.{Result, Ok, Err}
 use mathlib.Core.Path.{◌≡◌, refl, sym, ap, ◌∙◌}
 use mathlib.Core.Bool.{Bool, true, false, cond, ◌&&◌}
 use mathlib.Core.List.{List, [], ◌∷◌, ◌++◌, append_assoc, append-nil, map}
@@ -23,7 +24,7 @@ use Rattle.record_reader.specs.declared.Start.{Start}
 use Rattle.record_reader.specs.declared.Factors.{Factors}
 use Rattle.record_reader.specs.declared.Errors.{Errors}
 use Rattle.record_reader.specs.declared.Shown.{Shown}
-use Rattle.record_reader.specs.declared.Shown.TheVariants as shown
+use Rattle.record_reader.specs.declared.WrongLine.{WrongLine}
 use Rattle.record_reader.specs.Reading.{start_spot, Parts, format_in, order_in, reals_in, read_parts, fit_from, wcs_from, solution_from, Reading, reading_of, record_in}
 use Rattle.record_reader.specs.Loaded.{start_in, cd_in, errors_in, shown_whole, shown_in, OrderShown}
 
@@ -75,6 +76,10 @@ terms_length letter t (suc n) s c = ap suc (terms_length letter (next_term t) n 
 solved_length : (f : Float → Float) (letter n : ℕ) (s : List ℕ) (c : Spot) → length (map f (reals_in (read_slots (term_slots letter first_term n) s c))) ≡ n
 solved_length f letter n s c = length-map (reals_in (read_slots (term_slots letter first_term n) s c)) f ∙ terms_length letter first_term n s c
 
+-- what the parts show beside the coefficients
+abbrev shown_from : Parts → Shown
+shown_from p = record { format = format_in p.start; fit = fit_from p.start p.errors; wcs = wcs_from p.start p.cd; order = order_in p.cd }
+
 -- the parts and the lists that were filled show what the definition says
 whole_shown : (s : List ℕ) (p : Parts) (xs ys : List Float) → take (term_count (order_in p.cd)) xs ≡ (solution_from p).a → take (term_count (order_in p.cd)) ys ≡ (solution_from p).b
     → shown_in (shown_whole (length s) (start_in p.start) (cd_in p.cd) (errors_in p.errors)) xs ys ≡ reading_of s p
@@ -82,7 +87,7 @@ unfolding shown_whole
 whole_shown s p xs ys ex ey = go (p.errors.next.good && leb (length s) p.errors.next.at)
   where
     go : (b : Bool)
-        → shown_in (cond b (shown.Is (format_in p.start) (fit_from p.start p.errors) (wcs_from p.start p.cd) (order_in p.cd)) (shown.Wrong p.errors.next.line)) xs ys ≡ cond b (Reading.Shows (format_in p.start) (solution_from p)) (Reading.WrongAt p.errors.next.line)
+        → shown_in (cond b (Ok (shown_from p)) (Err (record { line = p.errors.next.line }))) xs ys ≡ cond b (Reading.Shows (format_in p.start) (solution_from p)) (Reading.WrongAt p.errors.next.line)
     go true = λ i. Reading.Shows (format_in p.start) (record { fit = (solution_from p).fit; wcs = (solution_from p).wcs; order = order_in p.cd; a = ex i; b = ey i })
     go false = refl
 
@@ -98,11 +103,11 @@ order_in_lem : (len : ℕ) (st : Start) (cd : Factors) (er : Errors) → 2 ≤ c
 unfolding shown_whole
 order_in_lem len st cd er h g = go (er.next.good && leb len er.next.at)
   where
-    go : (b : Bool) → OrderShown (cond b (shown.Is st.format (fit_of st er) (wcs_of st cd) cd.order) (shown.Wrong er.next.line))
+    go : (b : Bool) → OrderShown (cond b (Ok (record { format = st.format; fit = fit_of st er; wcs = wcs_of st cd; order = cd.order })) (Err (record { line = er.next.line })))
     go true = (h, g)
     go false = tt
 
-pub loaded : (s : List ℕ) (st : Start) (cd : Factors) (er : Errors) (n : ℕ) (here there : Spot) (xs ys us vs : List Float) (r : Shown)
+pub loaded : (s : List ℕ) (st : Start) (cd : Factors) (er : Errors) (n : ℕ) (here there : Spot) (xs ys us vs : List Float) (r : Result Shown WrongLine)
     → st ≡ start_in (read_slots start_slots s start_spot) → cd ≡ cd_in (read_slots (cd_slots (format_of st.format)) s st.next) → n ≡ term_count cd.order → length (take n xs) ≡ n → length (take n ys) ≡ n
     → here ≡ (read_slots (term_slots a_letter first_term (length (take n xs))) s cd.next).next → us ≡ map (solved_by (format_of st.format)) (reals_in (read_slots (term_slots a_letter first_term (length (take n xs))) s cd.next))
     → there ≡ (read_slots (term_slots b_letter first_term (length (take n ys))) s here).next → vs ≡ map (solved_by (format_of st.format)) (reals_in (read_slots (term_slots b_letter first_term (length (take n ys))) s here))
@@ -127,7 +132,7 @@ loaded s st cd er n here there xs ys us vs r e1 e2 en lx ly e3 u3 e4 v4 e5 e6 h 
     let tx : take (term_count (order_in P.cd)) (us ++ drop n xs) ≡ (solution_from P).a = take_at us (drop n xs) (term_count (order_in P.cd)) (lu ∙ m) ∙ w3 in
     let ty : take (term_count (order_in P.cd)) (vs ++ drop n ys) ≡ (solution_from P).b = take_at vs (drop n ys) (term_count (order_in P.cd)) (lv ∙ m) ∙ w4 in
     let o = order_in_lem (length s) st cd er h h' in (
-      ap (λ (x : Shown). shown_in x (us ++ drop n xs) (vs ++ drop n ys)) d6 ∙ whole_shown s P (us ++ drop n xs) (vs ++ drop n ys) tx ty,
+      ap (λ (x : Result Shown WrongLine). shown_in x (us ++ drop n xs) (vs ++ drop n ys)) d6 ∙ whole_shown s P (us ++ drop n xs) (vs ++ drop n ys) tx ty,
       rw e6 o,
       omega (arith, length-append us (drop n xs), length-drop n xs, lu, nx),
       omega (arith, length-append vs (drop n ys), length-drop n ys, lv, ny),

@@ -45,24 +45,29 @@ struct Errors {
     next: Spot,
 }
 
-// What a text shows beside the coefficients, its format, what a fit hands back, the WCS and the order; or the number of its
-// first wrong line.
+// What a text shows beside the coefficients: its format, what a fit hands back, the WCS and the order.
 #[derive(Clone, Copy)]
-pub enum Shown {
-    Is(u32, Sip, Wcs, u32),
-    Wrong(u32),
+pub struct Shown {
+    pub format: u32,
+    pub fit: Sip,
+    pub wcs: Wcs,
+    pub order: u32,
 }
 
-impl Shown {
-    // How many coefficients it shows on each axis; a text with a wrong line shows none.
-    pub fn terms(self) -> usize
-        requires { OrderShown self }
-        ensures { (result ≡ shown_terms self) × (result ≤ 18) }
-    {
-        match self {
-            Shown::Is(_, _, _, order) => sip_terms::term_count(order),
-            Shown::Wrong(_) => 0,
-        }
+// Why it shows nothing: the number of its first wrong line.
+#[derive(Clone, Copy)]
+pub struct WrongLine {
+    pub line: u32,
+}
+
+// How many coefficients a text shows on each axis; one with a wrong line shows none.
+pub fn terms(shown: Result<Shown, WrongLine>) -> usize
+    requires { OrderShown shown }
+    ensures { (result ≡ shown_terms shown) × (result ≤ 18) }
+{
+    match shown {
+        Ok(is) => sip_terms::term_count(is.order),
+        Err(_) => 0,
     }
 }
 
@@ -124,13 +129,11 @@ fn read_terms(s: &[u8], c: Spot, number: u32, letter: u8, out: &mut [f64]) -> Sp
     let format = Format::of(number);
     let mut here = c;
     let mut t = Term::first();
-    let mut i = 0usize;
-    while i < out.len() {
+    for x in out {
         let l = record_scan::term_line(s, here, letter, t);
-        out[i] = format.solved(scan_digits::of_bits(l.value));
+        *x = format.solved(scan_digits::of_bits(l.value));
         here = l.next;
         t = t.next();
-        i += 1;
     }
     here
 }
@@ -153,12 +156,12 @@ fn read_errors(s: &[u8], c: Spot) -> Errors
 }
 
 // What a text of a length shows, of which all lines were read: nothing may follow the last one.
-fn whole(len: usize, start: Start, cd: Factors, errors: Errors) -> Shown
+fn whole(len: usize, start: Start, cd: Factors, errors: Errors) -> Result<Shown, WrongLine>
     ensures { result ≡ shown_whole len start cd errors }
 {
     let end = errors.next;
     if !(end.good & (len <= end.at)) {
-        return Shown::Wrong(end.line);
+        return Err(WrongLine { line: end.line });
     }
     let fit = Sip {
         rows_used: start.rows,
@@ -174,11 +177,16 @@ fn whole(len: usize, start: Start, cd: Factors, errors: Errors) -> Shown
         cd2_1: cd.cd2_1,
         cd2_2: cd.cd2_2,
     };
-    Shown::Is(start.format, fit, wcs, cd.order)
+    Ok(Shown {
+        format: start.format,
+        fit,
+        wcs,
+        order: cd.order,
+    })
 }
 
 // Reads a text, its coefficients to the front of two lists.
-pub fn load(s: &[u8], xs: &mut [f64], ys: &mut [f64]) -> Shown
+pub fn load(s: &[u8], xs: &mut [f64], ys: &mut [f64]) -> Result<Shown, WrongLine>
     requires { (length xs.old ≡ 18) × (length ys.old ≡ 18) }
     ensures { (shown_in result xs.new ys.new ≡ record_in s.now)
         × OrderShown result × (length xs.new ≡ 18) × (length ys.new ≡ 18) }

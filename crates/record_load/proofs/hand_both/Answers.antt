@@ -1,7 +1,7 @@
 -- `record_load::hand_both` meets its contract: both lists are handed out, or none. Assumes nothing.
 use lib.ListN.{length}
 use Rattle.record_load.proofs.Laws.{room_of}
-use mathlib.Core.Path.{refl, sym, ◌∙◌}
+use mathlib.Core.Path.{sym, ◌∙◌}
 use Rattle.record_load.proofs.hand_both.Goals as goal
 
 pub hand_out-requires : goal.hand_out-requires

@@ -4,13 +4,10 @@ use Rattle.record_format.specs.Formats.{solved_by}
 use Rattle.record_scan.specs.Slots.{read_slots}
 use Rattle.sip_terms.specs.Terms.{first_term, term_at}
 use lib.ListN.{length}
-use Prim.Native.Nat.{◌+◌, ◌-◌, ◌≤◌}
+use Prim.Native.Nat.{◌+◌, ◌≤◌}
 use mathlib.Core.Path.{◌≡◌}
 use Rattle.record_lines.specs.Table.{term_slots}
 use Rattle.record_reader.proofs.read_terms.Given as goal
 
-abbrev pub invariant-loop-i : goal.invariant-loop-i
-invariant-loop-i l = Filling (solved_by l.format) l.s l.letter (read_slots (term_slots l.letter first_term (length l.initial.out)) l.s l.initial.here) (length l.initial.out) l.out l.here l.t l.i × (l.t ≡ term_at l.i) × (l.here.line ≤ l.initial.here.line + l.i) × (length l.out ≡ length l.initial.out) × (l.i ≤ length l.out)
-
-abbrev pub decreases-loop-i : goal.decreases-loop-i
-decreases-loop-i l = length l.out - l.i
+abbrev pub invariant-loop-x : goal.invariant-loop-x
+invariant-loop-x l = Filling (solved_by l.format) l.s l.letter (read_slots (term_slots l.letter first_term (length l.initial.x-items)) l.s l.initial.here) (length l.initial.x-items) l.x-items l.here l.t l.x-index × (l.t ≡ term_at l.x-index) × (l.here.line ≤ l.initial.here.line + l.x-index) × (length l.x-items ≡ length l.initial.x-items)
