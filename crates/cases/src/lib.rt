@@ -2,7 +2,7 @@
 // answer that are printed, all in the form of oracle/README.md.
 #![tactic(auto)]
 
-ghost use Rattle.std.specs.Prelude.{◌≡◌, ◌≤◌, ◌%◌, [], ◌∷◌, length, take, drop, Ok, None, IfOk, IfSome, OnOk};
+ghost use Rattle.std.specs.Prelude.{◌≡◌, ◌≤◌, ◌%◌, ℕ, List, [], ◌∷◌, length, take, drop, Ok, Option, None, IfOk, IfSome, OnOk};
 ghost use Rattle.std.specs.Io.{StopsAt};
 ghost use Rattle.std.specs.Io.BufRead.{take_through};
 ghost use Rattle.std.specs.Io.KnownBytes.{Appends, Consumes, IsAtEnd};
@@ -10,6 +10,7 @@ ghost use Rattle.digits.specs.Digits.{decimal_of};
 ghost use Rattle.scan_digits.specs.Read.{read_decimal};
 ghost use Rattle.cases.specs.Lists.{float_text, comma_before, dash_for, list_field};
 ghost use Rattle.cases.specs.Fields.{after_space, field_after, float_at, number_at, after_comma, after_member, member_after};
+ghost use Rattle.cases.specs.Members.{float_member, word_member, id_member, byte_member, count_member, id_of};
 ghost use Rattle.scan.specs.Read.{read_bytes};
 
 use std::io;
@@ -161,10 +162,15 @@ pub fn room<T>(s: &[u8], at: usize, buf: &[T]) -> usize
 // What can stand in a list.
 pub trait Listed: Copy {
     // The member at a place, and the place after its text; none where no such text stands there.
-    fn read(s: &[u8], at: usize) -> Option<(Self, usize)>;
+    ghost member_at: { List ℕ → ℕ → Option (Self × ℕ) };
+
+    fn read(s: &[u8], at: usize) -> Option<(Self, usize)>
+        ensures { result ≡ member_at s.now at };
 }
 
 impl Listed for f64 {
+    ghost member_at = { float_member };
+
     fn read(s: &[u8], at: usize) -> Option<(f64, usize)> {
         let (bits, p) = scan_digits::read_hex(s, at).ok()?;
         Some((scan_digits::of_bits(bits), p))
@@ -173,6 +179,8 @@ impl Listed for f64 {
 
 // A word stands there by its 16 digits.
 impl Listed for u64 {
+    ghost member_at = { word_member };
+
     fn read(s: &[u8], at: usize) -> Option<(u64, usize)> {
         scan_digits::read_hex(s, at).ok()
     }
@@ -180,6 +188,8 @@ impl Listed for u64 {
 
 // An id stands there by the 16 digits of its two's complement.
 impl Listed for i64 {
+    ghost member_at = { id_member };
+
     fn read(s: &[u8], at: usize) -> Option<(i64, usize)> {
         let (bits, p) = scan_digits::read_hex(s, at).ok()?;
         Some((id_of(bits), p))
@@ -187,6 +197,8 @@ impl Listed for i64 {
 }
 
 impl Listed for u8 {
+    ghost member_at = { byte_member };
+
     fn read(s: &[u8], at: usize) -> Option<(u8, usize)> {
         let (n, p) = scan_digits::read_decimal(s, at).ok()?;
         Some(((n % 256) as u8, p))
@@ -194,6 +206,8 @@ impl Listed for u8 {
 }
 
 impl Listed for u32 {
+    ghost member_at = { count_member };
+
     fn read(s: &[u8], at: usize) -> Option<(u32, usize)> {
         let (n, p) = scan_digits::read_decimal(s, at).ok()?;
         Some(((n % 4294967296) as u32, p))
@@ -201,7 +215,9 @@ impl Listed for u32 {
 }
 
 // The id of a pattern of bits, its two's complement.
-fn id_of(bits: u64) -> i64 {
+fn id_of(bits: u64) -> i64
+    ensures { result ≡ id_of bits }
+{
     if bits < 0x8000_0000_0000_0000 {
         return bits as i64;
     }
