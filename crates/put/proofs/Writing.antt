@@ -1,12 +1,12 @@
--- Laws of texts that are put into a buffer: one after the other, by a loop, and at once. Assumes nothing.
+-- Laws of texts that are put into a buffer: one after the other, and by a loop. Assumes nothing.
 use mathlib.Core.Path.{◌≡◌, refl, sym, ap, ◌∙◌, subst}
-use mathlib.Core.List.{List, [], ◌∷◌, ◌++◌, append_assoc}
-use Prim.Native.Nat.{ℕ, suc, ◌+◌, ◌-◌}
+use mathlib.Core.List.{List, [], ◌∷◌, ◌++◌}
+use Prim.Native.Nat.{ℕ, suc, ◌+◌, ◌≤◌, ◌<◌}
 use native.Mathlib.Nat.{add-zero}
+use native.Mathlib.Numerals.{add-one}
 use native.Mathlib.Omega.{arith}
-use borrow.Rule.Slice.PartMut.{put_mid}
-use lib.ListN.{length, set, take, drop, length-append}
-use lib.Seq.{sets, sets-eq, drop-drop, length-sets}
+use lib.ListN.{length, set, get_or, drop, length-append, drop_of_length-le}
+use lib.Seq.{sets, sets-eq, drop-cons, length-sets}
 use Rattle.put.specs.Put.{Put, Room}
 
 -- ---- one text after another
@@ -92,15 +92,16 @@ going_room {old} {all} {l} {rest} {at} {m} r g = record { room = omega (arith, r
 pub same_rest : {old all l us vs : List ℕ} {at m : ℕ} → us ≡ vs → Going old at all l m us → Going old at all l m vs
 same_rest {old} {all} {l} {us} {vs} {at} {m} e g = subst (λ (t : List ℕ). Going old at all l m t) e g
 
--- ---- a text at once
+-- ---- one byte more
 
--- the text written over the part of its length is the text put there
-pub copied : (l t new : List ℕ) (at : ℕ) → Room l at t → new ≡ t → Put l at t (at + length t) (put_mid at (at + length t - at) l new)
-copied l t new at r e =
-    let k : at + length t - at ≡ length t = omega arith in
-    record {
-      next_is = refl;
-      new_is =
-          rw (k, e, drop-drop (length t) at l) (sym (append_assoc (take at l) t (drop (at + length t) l)))
-          ∙ sym (sets-eq t l at r.room);
-    }
+-- the byte at i is put, and what is left of t follows it
+pub copy_step : (l t : List ℕ) (at i : ℕ) → i < length t
+    → sets (set l (at + i) (get_or t i 0)) (at + (i + 1)) (drop (i + 1) t) ≡ sets l (at + i) (drop i t)
+copy_step l t at i h =
+    let e : at + (i + 1) ≡ suc (at + i) = omega arith in
+    rw (drop-cons t i 0 h, e, add-one i)
+
+-- all bytes are put
+pub copy_end : (l₀ l t : List ℕ) (at i : ℕ) → i ≤ length t → length t ≤ i → sets l (at + i) (drop i t) ≡ sets l₀ at t → Put l₀ at t (at + i) l
+copy_end l₀ l t at i h g e =
+    record { next_is = omega arith; new_is = rw (drop_of_length-le t {i = i} g) at e }

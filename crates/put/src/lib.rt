@@ -13,11 +13,13 @@ pub fn put_byte(buf: &mut [u8], at: usize, b: u8) -> usize
     at + 1
 }
 
-// Puts all bytes of a slice.
+// Puts all bytes of a slice. No `copy_from_slice`: it calls memmove, which an archive for C would need from outside.
 pub fn put_bytes(buf: &mut [u8], at: usize, t: &[u8]) -> usize
     requires { Room buf.old at t.now }
     ensures { Put buf.old at t.now result buf.new }
 {
-    buf[at..at + t.len()].copy_from_slice(t);
+    for (i, b) in t.iter().enumerate() {
+        buf[at + i] = *b;
+    }
     at + t.len()
 }
