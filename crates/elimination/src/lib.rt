@@ -8,10 +8,10 @@ ghost use Rattle.elimination.specs.Agrees.{Agrees};
 ghost use Rattle.elimination.specs.Steps.{Cleared};
 
 // A pivot is above this.
-const LEAST_PIVOT: f64 = 1e-30;
+pub const LEAST_PIVOT: f64 = 1e-30;
 
 // The longest row.
-const MOST_COLUMNS: usize = 64;
+pub const MOST_COLUMNS: usize = 64;
 
 // The column at which an elimination stopped: it has no pivot above the least.
 #[derive(Clone, Copy)]
