@@ -90,9 +90,13 @@ pub fn fit_rounds(
         (rows px.now py.now xi.now eta.now) wcs mask.new a.new b.new }
 {
     for round in 0..Sip::ROUNDS {
-        solve_errors(
+        let r = solve_errors(
             px, py, xi, eta, snr, wcs, lines, up, vp, n, mask, errors, a, b,
-        )?;
+        );
+        // in full, and no `?`: a wrong program changes this answer alone
+        if let Err(why) = r {
+            return Err(why);
+        }
         if sip_clip::clip(snr, roots, errors, mask) == 0 {
             return Ok(());
         }
