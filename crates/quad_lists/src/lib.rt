@@ -9,6 +9,13 @@ ghost use Rattle.quad_visit.specs.Met.{neighbours, new_of};
 ghost use Rattle.quad_visit.specs.Ranks.{cell};
 ghost use Rattle.quad_lists.specs.Lists.{rows_of, bit, bit_at, cell_in, Held, Lists};
 
+// How many neighbours each of n stars has.
+fn count_of(n: usize, k: usize) -> usize
+    ensures { result ≡ min k (n - 1) }
+{
+    k.min(n.saturating_sub(1))
+}
+
 // The word in which the bit of place q alone is on, of the 64 places from `from` on; 0 for any other place.
 fn bit_of(q: u8, from: u8) -> u64
     ensures { (v : ℕ) → v < 64 → bit result v ≡ eqb q (from + v) }
@@ -68,7 +75,7 @@ pub fn put_lists(lists: &mut [u8], words: &mut [u64], xs: &[f64], ys: &[f64], k:
     for p in 0..n {
         put_star(lists, words, xs, ys, p, k);
     }
-    k.min(n.saturating_sub(1))
+    count_of(n, k)
 }
 
 // Whether place q is among the neighbours of star p.

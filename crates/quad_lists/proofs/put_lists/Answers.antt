@@ -10,4 +10,4 @@ pub returns : goal.returns
 returns c =
     let a = c.args in
     let l = c.loop-p in
-    rw (c.min.ensures, c.saturating_sub.ensures) (all_put a.xs.now a.ys.now a.k (min a.k (length a.xs.now - 1)) l.lists l.words c.requires.1 (omega (arith, c.requires.2)) (l.auto.lists ∙ c.requires.3) (l.auto.words ∙ c.requires.4) (λ q h. l.invariant q (omega arith)))
+    rw c.count_of.ensures (all_put a.xs.now a.ys.now a.k (min a.k (length a.xs.now - 1)) l.lists l.words c.requires.1 (omega (arith, c.requires.2)) (l.auto.lists ∙ c.requires.3) (l.auto.words ∙ c.requires.4) (λ q h. l.invariant q (omega arith)))
